@@ -1,12 +1,17 @@
 -- What the workers came to, one after the other.
-use Rattle.std.proofs.Common.{◌≡◌, ℕ, ◌+◌, ◌<◌, inl, inr, Result, Ok, Some, option_map, IsOk, List, length}
+use Rattle.std.proofs.Common.{◌≡◌, ◌≢◌, ℕ, ◌+◌, ◌<◌, inl, inr, Result, Ok, Err, Some, option_map, IsOk, List, length}
+use Rattle.std.proofs.Common.{slice_index_or, All, IfOk, ◌≤◌}
 use Rattle.std.proofs.Common.{slice_get, refl, sym, ap, subst, ◌∙◌, arith, add-one}
 use Rattle.std.proofs.lemmas.Bool.{cases_order}
-use Rattle.std.proofs.lemmas.Option.{same_Some, slice_get_within}
+use Rattle.std.proofs.lemmas.Option.{get_or_from_slice_get, same_Some, slice_get_within}
 use Rattle.nio_relay.specs.declared.plan.Served.{Served}
 use Rattle.nio_serve.specs.declared.serving.ServeError.{ServeError}
+use Rattle.nio_reactor.proofs.Lists.{at_each}
 use Rattle.nio_reactor.specs.Many.{sum_below}
-use Rattle.nio_reactor.specs.Working.{AddsSoFar, AddsAll, faults_of}
+use Rattle.nio_serve.specs.declared.serving.ServeError.TheVariants as serve
+use Rattle.nio_reactor.specs.Working.{AddsSoFar, AddsAll, AddsUp, Concludes, NoneHasEnded, faults_of}
+use Rattle.nio_reactor.specs.declared.many.ManyError.{ManyError}
+use Rattle.nio_reactor.specs.declared.many.ManyError.TheVariants as many
 
 ok_is : (o : Result Served ServeError) (served : Served) → o ≡ Ok served → IsOk o
 ok_is o served is = subst IsOk (sym is) refl
@@ -39,3 +44,46 @@ adds_end {X} outcome lanes i conns served so_far end is = record {
   faults = so_far.sum ∙ ap (sum_below (λ v. faults_of (option_map outcome (slice_get lanes v)))) (sym end);
   all = λ v y at. so_far.all v y (subst (λ n. v < n) end (slice_get_within lanes v y at)) at;
 }
+
+-- a worker that has served its connections counted few faults
+pub few_of : {X : Type 0} (outcome : X → Result Served ServeError) (lanes : List X) (i : ℕ) (x : X) (served : Served)
+    → All (λ y. IfOk (outcome y) (λ s. s.faults ≤ 16000)) lanes → i < length lanes → x ≡ slice_index_or lanes i x
+    → outcome x ≡ Ok served → served.faults ≤ 16000
+few_of outcome lanes i x served all less is ok =
+    subst (λ (o : Result Served ServeError). IfOk o (λ s. s.faults ≤ 16000)) ok
+    (at_each (λ y. IfOk (outcome y) (λ s. s.faults ≤ 16000)) lanes i x all less is)
+
+-- ---- why the others ended
+
+-- none of the first n lanes has ended for this reason
+abbrev pub NoneBelow : {X : Type 0} → ServeError → (X → Result Served ServeError) → List X → ℕ → Type 0
+NoneBelow {X} reason outcome lanes n =
+    (k : ℕ) (x : X) → k < n → outcome (slice_index_or lanes k x) ≢ Err reason
+
+pub none_one : {X : Type 0} (reason : ServeError) (outcome : X → Result Served ServeError) (lanes : List X) (i : ℕ)
+    (x : X) → NoneBelow reason outcome lanes i → slice_get lanes i ≡ Some x → outcome x ≢ Err reason
+    → NoneBelow reason outcome lanes (i + 1)
+none_one reason outcome lanes i x so_far at apart k y less =
+    elim (cases_order k i) [
+      | inl same ↦
+          subst (λ z. outcome z ≢ Err reason)
+          (sym (ap (λ j. slice_index_or lanes j y) same ∙ get_or_from_slice_get lanes i x y at)) apart
+      | inr (inl before) ↦ so_far k y before
+      | inr (inr after) ↦ absurd (omega (arith, after, less))
+    ]
+
+pub none_end : {X : Type 0} (reason : ServeError) (outcome : X → Result Served ServeError) (lanes : List X) (i : ℕ)
+    → NoneBelow reason outcome lanes i → length lanes ≡ i → NoneHasEnded reason outcome lanes
+none_end reason outcome lanes i so_far end k x less = so_far k x (subst (λ n. k < n) end less)
+
+module _ {X : Type 0} (accepted : Result (Unit {0}) ManyError) (outcome : X → Result Served ServeError) (conns : ℕ)
+    (lanes : List X) (none : NoneHasEnded serve.Memory outcome lanes) where
+  pub concludes_error : (error : ManyError) → accepted ≡ Err error → Concludes accepted outcome conns lanes (Err error)
+  concludes_error many.NetFault is = (none, inl is)
+  concludes_error many.Memory is = inl is
+
+  pub concludes_sum : (result : Result Served ManyError) → IsOk accepted → AddsUp outcome conns lanes result
+      → Concludes accepted outcome conns lanes result
+  concludes_sum (Ok served) ok adds = (ok, adds)
+  concludes_sum (Err many.NetFault) ok ended = (none, inr (ok, ended))
+  concludes_sum (Err many.Memory) ok never = absurd never

@@ -1,12 +1,13 @@
 -- What the proxy answers, from what its acceptor and its workers came to.
-use Rattle.std.proofs.Common.{◌≡◌, ℕ, zero, suc, ◌<◌, ◌⊎◌, inl, inr, Bool, false, IsTrue, IsOk, Ok, Err, Result, Some}
+use Rattle.std.proofs.Common.{◌≡◌, ℕ, zero, suc, ◌<◌, ◌⊎◌, inl, inr, Bool, false, IsTrue, IsOk, OnOk, Ok, Err, Result, Some}
 use Rattle.std.proofs.Common.{option_map, List, [], ◌∷◌, map, length, slice_get, slice_index_or, refl, sym, ap, subst}
 use Rattle.std.proofs.Common.{◌∙◌, arith}
-use Rattle.std.proofs.Common.{All}
+use Rattle.std.proofs.Common.{All, IfOk, ◌≤◌, ◌%◌, ◌==◌}
 use Rattle.std.proofs.lemmas.List.{length-map}
 use Rattle.std.proofs.lemmas.List.Elements.{All-get_or}
 use Rattle.std.proofs.lemmas.Option.{get_or_from_slice_get, same_Some, slice_get_within, slice_get-get_or}
 use Rattle.std.proofs.lemmas.Option.{slice_get-map}
+use Rattle.nio_base.specs.declared.numbers.Addr.{Addr}
 use Rattle.nio_base.specs.declared.numbers.ChanNo.{ChanNo}
 use Rattle.nio_bytes.specs.Cause.{Rose}
 use Rattle.nio_relay.specs.declared.plan.ProxyPlan.{ProxyPlan}
@@ -14,19 +15,21 @@ use Rattle.nio_relay.specs.declared.plan.Served.{Served}
 use Rattle.nio_link.specs.Links.{IsUnused}
 use Rattle.nio_link.specs.Places.{unused, IsVacant}
 use Rattle.nio_link.specs.declared.place.Place.{Place}
+use Rattle.nio_serve.proofs.Counts.{count_few}
 use Rattle.nio_serve.proofs.Promise.{unbegun}
 use Rattle.nio_reactor.proofs.Asked.{asked_first, asked_more, left}
 use Rattle.nio_reactor.proofs.Lists.{element}
 use Rattle.nio_reactor.proofs.Worked.{fresh_leaves}
 use Rattle.nio_serve.specs.Serving.{NoneRose, RelaysBytes, WasClean, listener}
 use Rattle.nio_serve.specs.declared.serving.ServeError.{ServeError}
+use Rattle.nio_serve.specs.declared.serving.ServeError.TheVariants.{NetFault as Failed}
 use Rattle.nio_reactor.specs.Accepting.{HasAccepted}
 use Rattle.nio_reactor.specs.Dealing.{share}
 use Rattle.nio_reactor.specs.Many.{Meanings, HasServedAll, HasServedPart, ServesMany, APollRose, NoneRoseOfAll}
 use Rattle.nio_reactor.specs.Many.{AreAllClean}
 use Rattle.nio_reactor.specs.Many.{ServesAllCleanOr, LeavesAcceptor, LeavesWorker, LeavesWorkers, RelayBytes}
 use Rattle.nio_reactor.specs.Many.{AreAccepted, sum_below}
-use Rattle.nio_reactor.specs.Working.{HasWorked, HaveWorked, IsFresh, AddsAll, APollFailed, Concludes, faults_of}
+use Rattle.nio_reactor.specs.Working.{HasWorked, HaveWorked, HasEnded, IsFresh, AddsAll, Concludes, faults_of}
 use Rattle.nio_reactor.specs.declared.many.ManyError.{ManyError}
 use Rattle.nio_reactor.specs.declared.many.ManyError.TheVariants.{NetFault, Memory}
 
@@ -50,7 +53,7 @@ module _ {X N : Type 0} (m : Meanings N) (plan : ProxyPlan) (net : X → N) (ear
     (outcome : X → Result Served ServeError) (before now : List X) (count : length now ≡ length before)
     (worked : HaveWorked m plan net early outcome before now) where
   -- what the worker of two nets came to
-  at_worker : (v : ℕ) (x y : N) → slice_get (map net before) v ≡ Some x → slice_get (map net now) v ≡ Some y
+  pub at_worker : (v : ℕ) (x y : N) → slice_get (map net before) v ≡ Some x → slice_get (map net now) v ≡ Some y
       → (b : X) × (slice_get now v ≡ Some b)
       × HasWorked m plan.target (share (length (map net now)) v plan.conns) x y (early b) (outcome b)
   at_worker v x y at_x at_y =
@@ -117,29 +120,29 @@ module _ {X N : Type 0} (m : Meanings N) (plan : ProxyPlan) (net : X → N) (ear
   rose_of e P on_time (inl is) = absurd (cc)
   rose_of e P on_time (inr rose) = rose
 
-  poll_failed : APollFailed early outcome now → APollRose m (map net before) (map net now)
-  poll_failed failed =
-      let has = worker_at failed.worker failed.lane failed.is in record {
-        worker = failed.worker;
-        first = has.0;
-        last = net failed.lane;
-        was = has.1;
-        is = to_map net now failed.worker failed.lane failed.is;
-        rose = rose_of (early failed.lane) (Rose (m.polls has.0) (m.polls (net failed.lane))) failed.on_time
-            (has.2.fault failed.fault);
-      }
+  module _ (done : Result (Unit {0}) ManyError)
+      (on_time : IsOk done → (v : ℕ) (b : X) → slice_get now v ≡ Some b → early b ≡ false) where
+    poll_failed : IsOk done → HasEnded Failed outcome now → APollRose m (map net before) (map net now)
+    poll_failed ok failed =
+        let has = worker_at failed.worker failed.lane failed.is in record {
+          worker = failed.worker;
+          first = has.0;
+          last = net failed.lane;
+          was = has.1;
+          is = to_map net now failed.worker failed.lane failed.is;
+          rose = rose_of (early failed.lane) (Rose (m.polls has.0) (m.polls (net failed.lane)))
+              (on_time ok failed.worker failed.lane failed.is) (has.2.fault failed.reason_is);
+        }
 
-  pub serves_many : (x y : N) (accepted : N → List ChanNo) (done : Result (Unit {0}) ManyError)
-      (answer : Result Served ManyError) → HasAccepted m accepted plan x y done
-      → Concludes done early outcome plan.conns now answer
-      → ServesMany m plan x y (map net before) (map net now) answer
-  serves_many x y accepted (Ok done) (Ok served) has is = adds_all served is
-  serves_many x y accepted (Ok done) (Err NetFault) has is = inr (poll_failed is)
-  serves_many x y accepted (Ok done) (Err Memory) has is = tt
-  serves_many x y accepted (Err NetFault) answer has is =
-      subst (ServesMany m plan x y (map net before) (map net now)) (sym is) (inl (has.fault refl))
-  serves_many x y accepted (Err Memory) answer has is =
-      subst (ServesMany m plan x y (map net before) (map net now)) (sym is) tt
+    pub serves_many : (x y : N) (accepted : N → List ChanNo) (answer : Result Served ManyError)
+        → HasAccepted m accepted plan x y done → Concludes done outcome plan.conns now answer
+        → ServesMany m plan x y (map net before) (map net now) answer
+    serves_many x y accepted (Ok served) has is = adds_all served is.1
+    serves_many x y accepted (Err NetFault) has is = elim is.1 [
+      | inl failed ↦ inl (has.fault failed)
+      | inr ended ↦ inr (poll_failed ended.0 ended.1)
+    ]
+    serves_many x y accepted (Err Memory) has is = tt
 
   pub leaves_workers : LeavesWorkers m plan (map net now)
   leaves_workers v y at =
@@ -174,44 +177,46 @@ module _ {X N : Type 0} (m : Meanings N) (plan : ProxyPlan) (net : X → N) (ear
             subst (λ n. WasClean (m.link n) k) b.2 ((clean_at v b.0 b.1).1 k few);
       }
 
-  pub serves_all : (x y : N) (accepted : N → List ChanNo) (done : Result (Unit {0}) ManyError)
-      (answer : Result Served ManyError) → HasAccepted m accepted plan x y done
-      → Concludes done early outcome plan.conns now answer → NoneRoseOfAll m x y (map net before) (map net now)
+  pub serves_all : (done : Result (Unit {0}) ManyError)
+      → (IsOk done → (v : ℕ) (b : X) → slice_get now v ≡ Some b → early b ≡ false) → (x y : N)
+      (accepted : N → List ChanNo) (answer : Result Served ManyError) → HasAccepted m accepted plan x y done
+      → Concludes done outcome plan.conns now answer → NoneRoseOfAll m x y (map net before) (map net now)
       → ServesAllCleanOr m plan (map net now) answer
-  serves_all x y accepted (Ok done) (Ok served) has is none = all_clean x y served none is
-  serves_all x y accepted (Ok done) (Err NetFault) has is none =
-      let rose = poll_failed is in
-      (none.workers rose.worker rose.first rose.last rose.was rose.is).polls rose.rose
-  serves_all x y accepted (Ok done) (Err Memory) has is none = tt
-  serves_all x y accepted (Err NetFault) answer has is none = absurd (elim (has.fault refl) [
-    | inl rose ↦ none.acceptor.polls rose
-    | inr rose ↦ none.acceptor.links listener rose
+  serves_all done on_time x y accepted (Ok served) has is none = all_clean x y served none is.1
+  serves_all done on_time x y accepted (Err NetFault) has is none = absurd (elim is.1 [
+    | inl failed ↦ elim (has.fault failed) [
+      | inl rose ↦ none.acceptor.polls rose
+      | inr rose ↦ none.acceptor.links listener rose
+    ]
+    | inr ended ↦
+        let rose = poll_failed done on_time ended.0 ended.1 in
+        (none.workers rose.worker rose.first rose.last rose.was rose.is).polls rose.rose
   ])
-  serves_all x y accepted (Err Memory) answer has is none =
-      subst (ServesAllCleanOr m plan (map net now)) (sym is) tt
+  serves_all done on_time x y accepted (Err Memory) has is none = tt
 
 -- the same over other names for the nets
 module _ {X N : Type 0} (m : Meanings N) (plan : ProxyPlan) (net : X → N) (early : X → Bool)
     (outcome : X → Result Served ServeError) (before now : List X) (first last : List N)
     (first_is : map net before ≡ first) (last_is : last ≡ map net now) (count : length now ≡ length before)
     (worked : HaveWorked m plan net early outcome before now) where
-  pub serves_of : (x y : N) (accepted : N → List ChanNo) (done : Result (Unit {0}) ManyError)
-      (answer : Result Served ManyError) → HasAccepted m accepted plan x y done
-      → Concludes done early outcome plan.conns now answer → ServesMany m plan x y first last answer
-  serves_of x y accepted done answer has is =
-      subst (λ a. ServesMany m plan x y a last answer) first_is
-      (subst (λ b. ServesMany m plan x y (map net before) b answer) (sym last_is)
-      (serves_many m plan net early outcome before now count worked x y accepted done answer has is))
+  module _ (done : Result (Unit {0}) ManyError)
+      (on_time : IsOk done → (v : ℕ) (b : X) → slice_get now v ≡ Some b → early b ≡ false) where
+    pub serves_of : (x y : N) (accepted : N → List ChanNo) (answer : Result Served ManyError)
+        → HasAccepted m accepted plan x y done → Concludes done outcome plan.conns now answer
+        → ServesMany m plan x y first last answer
+    serves_of x y accepted answer has is =
+        subst (λ a. ServesMany m plan x y a last answer) first_is
+        (subst (λ b. ServesMany m plan x y (map net before) b answer) (sym last_is)
+        (serves_many m plan net early outcome before now count worked done on_time x y accepted answer has is))
 
-  pub complete_of : (x y : N) (accepted : N → List ChanNo) (done : Result (Unit {0}) ManyError)
-      (answer : Result Served ManyError) → HasAccepted m accepted plan x y done
-      → Concludes done early outcome plan.conns now answer → NoneRoseOfAll m x y first last
-      → ServesAllCleanOr m plan last answer
-  complete_of x y accepted done answer has is none =
-      subst (λ b. ServesAllCleanOr m plan b answer) (sym last_is)
-      (serves_all m plan net early outcome before now count worked x y accepted done answer has is
-      (subst (λ a. NoneRoseOfAll m x y a (map net now)) (sym first_is)
-      (subst (λ b. NoneRoseOfAll m x y first b) last_is none)))
+    pub complete_of : (x y : N) (accepted : N → List ChanNo) (answer : Result Served ManyError)
+        → HasAccepted m accepted plan x y done → Concludes done outcome plan.conns now answer
+        → NoneRoseOfAll m x y first last → ServesAllCleanOr m plan last answer
+    complete_of x y accepted answer has is none =
+        subst (λ b. ServesAllCleanOr m plan b answer) (sym last_is)
+        (serves_all m plan net early outcome before now count worked done on_time x y accepted answer has is
+        (subst (λ a. NoneRoseOfAll m x y a (map net now)) (sym first_is)
+        (subst (λ b. NoneRoseOfAll m x y first b) last_is none)))
 
   pub workers_of : LeavesWorkers m plan last
   workers_of = subst (LeavesWorkers m plan) (sym last_is)
@@ -220,15 +225,38 @@ module _ {X N : Type 0} (m : Meanings N) (plan : ProxyPlan) (net : X → N) (ear
   pub relays_of : RelayBytes m last
   relays_of = subst (RelayBytes m) (sym last_is) (relay_bytes m plan net early outcome before now count worked)
 
-pub accepts_of : {X N : Type 0} (m : Meanings N) (plan : ProxyPlan) (early : X → Bool)
-    (outcome : X → Result Served ServeError) (lanes : List X) (x y : N) (accepted : N → List ChanNo)
-    (done : Result (Unit {0}) ManyError) (answer : Result Served ManyError) → HasAccepted m accepted plan x y done
-    → Concludes done early outcome plan.conns lanes answer
-    → AreAccepted plan.conns (accepted x) (accepted y) answer
-accepts_of m plan early outcome lanes x y accepted (Ok done) (Ok served) has is = has.all
-accepts_of m plan early outcome lanes x y accepted (Ok done) (Err error) has is = (has.count, has.some, has.order)
-accepts_of m plan early outcome lanes x y accepted (Err error) answer has is =
-    subst (AreAccepted plan.conns (accepted x) (accepted y)) (sym is) (has.count, has.some, has.order)
+pub on_ok : {T E P : Type 0} (r : Result T E) → IsOk r → OnOk r P → P
+on_ok (Ok x) ok has = has
+on_ok (Err e) ok has = absurd (cc)
+
+pub accepts_of : {X N : Type 0} (m : Meanings N) (plan : ProxyPlan) (outcome : X → Result Served ServeError)
+    (lanes : List X) (x y : N) (accepted : N → List ChanNo) (done : Result (Unit {0}) ManyError)
+    (answer : Result Served ManyError) → HasAccepted m accepted plan x y done
+    → Concludes done outcome plan.conns lanes answer → AreAccepted plan.conns (accepted x) (accepted y) answer
+accepts_of m plan outcome lanes x y accepted done (Ok served) has is = on_ok done is.0 has.all
+accepts_of m plan outcome lanes x y accepted done (Err error) has is = (has.count, has.some, has.order)
+
+-- no worker counts more faults than it has connections
+few_served : {N : Type 0} (m : Meanings N) (target : Addr) (w v conns : ℕ) (x y : N) (early : Bool)
+    (outcome : Result Served ServeError) → conns ≤ 16000
+    → HasWorked m target (share w v conns) x y early outcome → IfOk outcome (λ served. served.faults ≤ 16000)
+few_served m target w v conns x y early (Ok served) few has =
+    omega (
+      arith,
+      has.serves.faults,
+      count_few has.serves.counted (share w v conns),
+      count_few (λ k. (k % w) == v) conns,
+      few,
+    )
+few_served m target w v conns x y early (Err error) few has = tt
+
+pub few_faults : {X N : Type 0} (m : Meanings N) (plan : ProxyPlan) (net : X → N) (early : X → Bool)
+    (outcome : X → Result Served ServeError) (before now : List X) → length now ≡ length before
+    → HaveWorked m plan net early outcome before now → plan.conns ≤ 16000
+    → All (λ x. IfOk (outcome x) (λ served. served.faults ≤ 16000)) now
+few_faults m plan net early outcome before now count worked few k x less =
+    few_served m plan.target (length before) k plan.conns _ _ (early (slice_index_or now k x))
+    (outcome (slice_index_or now k x)) few (worked k x (subst (λ n. k < n) count less))
 
 -- ---- where nothing was done
 

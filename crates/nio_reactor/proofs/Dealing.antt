@@ -6,16 +6,17 @@ use Rattle.std.proofs.lemmas.Bool.{cases_eq, ne_eqb}
 use Rattle.std.proofs.lemmas.List.{map-append, get_or-set_same, get_or-set_other, length-set}
 use Rattle.std.proofs.lemmas.Option.{get_or_from_slice_get, slice_get-get_or, slice_get_within}
 use Rattle.nio_line.specs.Lines.{End as LineEnd}
+use Rattle.nio_reactor.proofs.Lists.{map_set}
 use Rattle.nio_reactor.specs.Accepting.{Deals}
 use Rattle.nio_reactor.specs.Dealing.{dealt, number_of, share}
 use Rattle.nio_reactor.specs.declared.message.Message.{Message}
 
-dealt_mine : (w v k : ℕ) → k % w ≡ v → dealt w v (k + 1) ≡ dealt w v k ++ Some k ∷ []
+pub dealt_mine : (w v k : ℕ) → k % w ≡ v → dealt w v (k + 1) ≡ dealt w v k ++ Some k ∷ []
 dealt_mine w v k mine =
     ap (dealt w v) (add-one k)
     ∙ ap (λ t. if t then dealt w v k ++ Some k ∷ [] else dealt w v k) (eq-eqb (k % w) v mine)
 
-dealt_others : (w v k : ℕ) → k % w ≢ v → dealt w v (k + 1) ≡ dealt w v k
+pub dealt_others : (w v k : ℕ) → k % w ≢ v → dealt w v (k + 1) ≡ dealt w v k
 dealt_others w v k others =
     ap (dealt w v) (add-one k)
     ∙ ap (λ t. if t then dealt w v k ++ Some k ∷ [] else dealt w v k)
@@ -24,6 +25,7 @@ dealt_others w v k others =
 pub deals_none : {L : Type 0} (k : ℕ) (lines : List (LineEnd (Message L))) → Deals k k lines lines
 deals_none {L} k lines = record {
   count = refl;
+  same = refl;
   dealt = λ w v x y start len at_x at_y was.
       let same : x ≡ y
       = sym (get_or_from_slice_get lines v x x at_x) ∙ get_or_from_slice_get lines v y x at_y in
@@ -34,6 +36,7 @@ pub deals_then : {L : Type 0} (k n o : ℕ) (a b c : List (LineEnd (Message L)))
     → Deals k o a c
 deals_then {L} k n o a b c first second = record {
   count = second.count ∙ first.count;
+  same = second.same ∙ first.same;
   dealt = λ w v x z start len at_x at_z was.
       let within : v < length c = slice_get_within c v z at_z in
       let within_b : v < length b = subst (λ m. v < m) second.count within in
@@ -54,6 +57,8 @@ deals_one {L} lines k d new message some new_is number =
     let within : at < length lines = mod-lt k some in
     record {
       count = length-set lines at new;
+      same = map_set (λ (e : LineEnd (Message L)). e.line) lines at d new
+          (ap (λ (e : LineEnd (Message L)). e.line) new_is);
       dealt = λ w v x y start len at_x at_y was. elim (cases_eq v at) [
         | inl same ↦
             let x_is : x ≡ old = sym (get_or_from_slice_get lines v x d at_x) ∙ ap (λ i. get_or lines i d) same in

@@ -6,6 +6,7 @@ use Rattle.std.proofs.lemmas.List.{append-nil, map-append, get_or-set_same, get_
 use Rattle.std.proofs.lemmas.Option.{get_or_from_slice_get, slice_get-get_or, slice_get_within}
 use Rattle.nio_base.specs.declared.numbers.ChanNo.{ChanNo}
 use Rattle.nio_line.specs.Lines.{End as LineEnd}
+use Rattle.nio_reactor.proofs.Lists.{map_set}
 use Rattle.nio_reactor.specs.Accepting.{Accepts, AreEnded, Deals, EndedBelow, HasSent}
 use Rattle.nio_reactor.specs.Dealing.{dealt, number_of}
 use Rattle.nio_reactor.specs.Many.{Meanings}
@@ -15,6 +16,7 @@ use Rattle.nio_reactor.specs.declared.message.Message.TheVariants.{End}
 pub ended_none : {L : Type 0} (lines : List (LineEnd (Message L))) → EndedBelow 0 lines lines
 ended_none {L} lines = record {
   count = refl;
+  same = refl;
   ended = λ v x y few at_x at_y. absurd (omega (arith, few));
   rest = λ v x y more at_x at_y. sym (get_or_from_slice_get lines v y x at_y) ∙ get_or_from_slice_get lines v x x at_x;
 }
@@ -36,6 +38,8 @@ ended_one {L} k a b d new was within new_is =
     slice_get-get_or b v y few ∙ ap Some (sym same) in
     record {
       count = length_is ∙ was.count;
+      same = map_set (λ (e : LineEnd (Message L)). e.line) b k d new
+          (ap (λ (e : LineEnd (Message L)). e.line) new_is) ∙ was.same;
       ended = λ v x y few at_x at_y. elim (cases_order v k) [
         | inl same ↦
             let at_old : slice_get b k ≡ Some old = slice_get-get_or b k d within in
@@ -58,6 +62,7 @@ pub ended_all : {L : Type 0} (k : ℕ) (a b : List (LineEnd (Message L))) → En
     → AreEnded a b
 ended_all {L} k a b was all = record {
   count = was.count;
+  same = was.same;
   ended = λ v x y at_x at_y.
       was.ended v x y (omega (arith, slice_get_within a v x at_x, all)) at_x at_y;
 }
@@ -69,6 +74,7 @@ has_sent {L} m accepted n x y a b c accepts deals ends = record {
   count = n;
   accepted = accepts.order (accepted x) (sym (append-nil (accepted x)));
   lines = ends.count ∙ deals.count;
+  same = ends.same ∙ deals.same;
   sent = λ v p q at_p at_q.
       let within : v < length b = subst (λ m. v < m) ends.count (slice_get_within c v q at_q) in
       let mid : LineEnd (Message L) = get_or b v p in

@@ -204,7 +204,7 @@ pub record Settled (w conns : ℕ) (p : Pass) : Type 0 where
   pub whole : IsWhole (table_for w) (seen p)
   pub placed : ArePlaced w conns (seen p)
 
-module _ {X : Type 0} (words : Words) (plan : ProxyPlan) (early : X → Bool) (outcome : X → Result Served ServeError)
+module _ {X : Type 0} (words : Words) (plan : ProxyPlan) (outcome : X → Result Served ServeError)
     (pass : X → Pass) (w : ℕ) (limits : limits_of words ≡ table_for w) (before now : List X) (count : length before ≡ w)
     (same : length now ≡ length before) (leave : LeaveSeats words plan pass outcome before now)
     (acceptor p : Pass) (is_pass : IsPassOf words p)
@@ -288,21 +288,12 @@ module _ {X : Type 0} (words : Words) (plan : ProxyPlan) (early : X → Bool) (o
 
   -- what the call answers at Ok, with this pass
   module _ (result : Result Served ManyError)
-      (concludes : Concludes accepted early outcome plan.conns now result) (some : 0 < w) where
+      (concludes : Concludes accepted outcome plan.conns now result) (some : 0 < w) where
     owned : (served : Served) → result ≡ Ok served → (n : CallerNo) → HasOwn w plan.conns p n
-    owned served is = by_accepted accepted refl
-      where
-        by_accepted : (a : Result (Unit {0}) ManyError) → accepted ≡ a → (n : CallerNo) → HasOwn w plan.conns p n
-        by_accepted (Ok done) accepted_is n =
-            let all : Concludes (Ok done) early outcome plan.conns now (Ok served)
-            = subst (λ r. Concludes (Ok done) early outcome plan.conns now r) is
-            (subst (λ a. Concludes a early outcome plan.conns now result) accepted_is concludes) in
-            own_of (subst IsOk (sym accepted_is) refl) all.all n
-        by_accepted (Err error) accepted_is n =
-            let failed : result ≡ Err error
-            = subst (λ a. Concludes a early outcome plan.conns now result) accepted_is concludes in
-            let clash : Ok served ≡ Err error = sym is ∙ failed in
-            absurd (cc)
+    owned served is n =
+        let all : Concludes accepted outcome plan.conns now (Ok served)
+        = subst (Concludes accepted outcome plan.conns now) is concludes in
+        own_of all.0 all.1.all n
 
   ready_worker : (v : ℕ) → v < w → IsReady words p (caller (v + 1))
   ready_worker v less =
@@ -324,7 +315,7 @@ module _ {X : Type 0} (words : Words) (plan : ProxyPlan) (early : X → Bool) (o
   }
 
   -- where the call answers Ok
-  pub settled : (result : Result Served ManyError) → Concludes accepted early outcome plan.conns now result → 0 < w
+  pub settled : (result : Result Served ManyError) → Concludes accepted outcome plan.conns now result → 0 < w
       → (served : Served) → result ≡ Ok served → Settled w plan.conns p
   settled result concludes some served is =
       let own = owned result concludes some served is in record {

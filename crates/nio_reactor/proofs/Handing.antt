@@ -1,35 +1,28 @@
 -- Which connections' links each worker puts in.
-use Rattle.std.proofs.Common.{◌≡◌, ℕ, zero, suc, ◌+◌, ◌*◌, ◌<◌, ◌≤◌, inl, inr, Bool, Ok, Err, Result, Some, IsOk}
+use Rattle.std.proofs.Common.{◌≡◌, ℕ, zero, suc, ◌+◌, ◌*◌, ◌<◌, ◌≤◌, Ok, Err, Result, Some, All, IsOk}
 use Rattle.std.proofs.Common.{List, [], ◌∷◌, ◌++◌, map, length, slice_get, slice_index_or, refl, sym, ap, subst, ◌∙◌}
 use Rattle.std.proofs.Common.{arith, add-one, append_assoc, length-append}
-use Rattle.std.proofs.Math.Nat.{suc-mul}
-use Rattle.std.proofs.lemmas.List.{append-nil, length-map, map-append, nil_from_length}
+use Rattle.std.proofs.lemmas.List.{append-nil, length-map, map-append}
+use Rattle.std.proofs.lemmas.List.Elements.{All-head, All-tail}
 use Rattle.std.proofs.lemmas.Option.{get_or_from_slice_get, slice_get-get_or}
-use Rattle.nio_base.specs.declared.numbers.Addr.{Addr}
-use Rattle.nio_link.specs.declared.place.Role.TheVariants as role
 use Rattle.nio_relay.specs.declared.plan.ProxyPlan.{ProxyPlan}
 use Rattle.nio_relay.specs.declared.plan.Served.{Served}
-use Rattle.nio_serve.specs.Serving.{client_of, clients_below, AreNumbered, IsAtMost}
+use Rattle.nio_serve.specs.Serving.{client_of, clients_below, AreNumbered}
 use Rattle.nio_serve.specs.declared.serving.ServeError.{ServeError}
-use Rattle.nio_reactor.proofs.Lists.{element}
+use Rattle.nio_reactor.proofs.Lists.{element, first_same, rest_same}
 use Rattle.nio_reactor.specs.Dealing.{share}
-use Rattle.nio_reactor.specs.Doors.{worker_at, workers_at}
 use Rattle.nio_reactor.specs.Handing.{below, handover, handovers, handed_by, put_at, put_below}
-use Rattle.nio_reactor.specs.Handing.{AreHanded, HasHanded, HaveHanded}
-use Rattle.nio_reactor.specs.Lanes.{door_place}
-use Rattle.nio_reactor.specs.Assignments.{assignment_at, assignment_of, assignments_of, next_of}
+use Rattle.nio_reactor.specs.Handing.{AreHanded}
 use Rattle.nio_reactor.specs.Working.{Concludes}
-use Rattle.nio_reactor.specs.declared.door.Door.{Door}
-use Rattle.nio_reactor.specs.declared.door.Door.TheVariants as door
 use Rattle.nio_reactor.specs.declared.handover.Handover.{Handover}
 use Rattle.nio_reactor.specs.declared.many.ManyError.{ManyError}
 
 -- ---- lists
 
-below_next : {A : Type 0} (f : ℕ → A) (n : ℕ) → map f (below (n + 1)) ≡ map f (below n) ++ f n ∷ []
+pub below_next : {A : Type 0} (f : ℕ → A) (n : ℕ) → map f (below (n + 1)) ≡ map f (below n) ++ f n ∷ []
 below_next f n = ap (λ m. map f (below m)) (add-one n) ∙ map-append f (below n) (n ∷ [])
 
-length_below : (n : ℕ) → length (below n) ≡ n
+pub length_below : (n : ℕ) → length (below n) ≡ n
 length_below zero = refl
 length_below (suc n) = length-append (below n) (n ∷ []) ∙ (ap (λ m. m + 1) (length_below n) ∙ add-one n)
 
@@ -38,146 +31,65 @@ clients_are zero = refl
 clients_are (suc n) =
     ap (λ l. l ++ client_of n ∷ []) (clients_are n) ∙ sym (map-append client_of (below n) (n ∷ []))
 
-head_same : {A : Type 0} (x y : A) (xs ys : List A) → x ∷ xs ≡ y ∷ ys → x ≡ y
-head_same x y xs ys is = cc
-
-tail_same : {A : Type 0} (x y : A) (xs ys : List A) → x ∷ xs ≡ y ∷ ys → xs ≡ ys
-tail_same x y xs ys is = cc
-
-none_mapped : {A B : Type 0} (f : A → B) (xs : List A) → map f xs ≡ [] → xs ≡ []
-none_mapped f xs is = nil_from_length xs (sym (length-map xs f) ∙ ap length is)
-
--- ---- one more link
-
-order_at : (at : Addr) (put : List Handover) (h : Handover)
-    → map assignment_of put ≡ map (assignment_at at) (below (length put))
-    → assignment_of h ≡ assignment_at at (length put)
-    → map assignment_of (put ++ h ∷ []) ≡ map (assignment_at at) (below (length (put ++ h ∷ [])))
-order_at at put h was here =
-    map-append assignment_of put (h ∷ [])
-    ∙ (ap (λ l. l ++ assignment_of h ∷ []) was
-    ∙ (ap (λ t. map (assignment_at at) (below (length put)) ++ t ∷ []) here
-    ∙ (sym (below_next (assignment_at at) (length put))
-    ∙ ap (λ n. map (assignment_at at) (below n)) (sym (length-append put (h ∷ []))))))
-
-number_after : (at : Addr) (put : List Handover) (h : Handover) (connection : ℕ)
-    → connection ≡ worker_at at + length put * workers_at at
-    → connection + workers_at at ≡ worker_at at + length (put ++ h ∷ []) * workers_at at
-number_after at put h connection is =
-    let longer : length (put ++ h ∷ []) ≡ suc (length put)
-    = length-append put (h ∷ []) ∙ add-one (length put) in
-    let more : length (put ++ h ∷ []) * workers_at at ≡ length put * workers_at at + workers_at at
-    = ap (λ n. n * workers_at at) longer ∙ suc-mul (length put) (workers_at at) in
-    omega (arith, is, more)
-
-module _ (d : Door) (at : Addr) (put now : List Handover) (h : Handover) (next : ℕ) (is_open : d ≡ door.Open at)
-    (now_is : now ≡ put ++ h ∷ []) (due : next ≡ next_of d (length put)) where
-  next_is : next ≡ worker_at at + length put * workers_at at
-  next_is = due ∙ ap (λ x. next_of x (length put)) is_open
-
-  pub order_next : map assignment_of put ≡ assignments_of d (length put) → h.worker ≡ worker_at at
-      → h.connection ≡ next
-      → map assignment_of now ≡ assignments_of d (length now)
-  order_next order worker connection =
-      let here : assignment_of h ≡ assignment_at at (length put)
-      = ap (λ (n : ℕ). let t : ℕ × ℕ = (n, h.worker) in t) (connection ∙ next_is)
-      ∙ ap (λ (n : ℕ). let t : ℕ × ℕ = (worker_at at + length put * workers_at at, n) in t) worker in
-      ap (map assignment_of) now_is
-      ∙ order_at at put h (order ∙ ap (λ x. assignments_of x (length put)) is_open) here
-      ∙ ap (λ (l : List Handover). map (assignment_at at) (below (length l))) (sym now_is)
-      ∙ ap (λ x. assignments_of x (length now)) (sym is_open)
-
-  pub due_next : (after : ℕ) → after ≡ next + workers_at at → after ≡ next_of d (length now)
-  due_next after after_is =
-      after_is ∙ number_after at put h next next_is
-      ∙ ap (λ (l : List Handover). worker_at at + length l * workers_at at) (sym now_is)
-      ∙ ap (λ x. next_of x (length now)) (sym is_open)
-
 -- ---- what one worker has put in
 
-module _ (at : Addr) where
-  both : (put : List Handover) (numbers : List ℕ) → map (λ h. h.client) put ≡ map client_of numbers
-      → map assignment_of put ≡ map (assignment_at at) numbers
-      → put ≡ map (handover (workers_at at) (worker_at at)) numbers
-  both [] [] clients assigned = refl
-  both [] (j ∷ numbers) clients assigned = absurd (cc)
-  both (h ∷ put) [] clients assigned = absurd (cc)
-  both (h ∷ put) (j ∷ numbers) clients assigned =
+-- what worker v of w has put in, of so many connections
+abbrev pub HasHanded : ℕ → ℕ → ℕ → List Handover → Result Served ServeError → Type 0
+HasHanded w v conns put (Ok served) = put ≡ handovers w v conns
+HasHanded w v conns put (Err error) = (count : ℕ) × (count ≤ conns) × (put ≡ handovers w v count)
+
+-- every worker has: `put` and `outcome` are what its lane shows
+abbrev pub HaveHanded : {X : Type 0} → ProxyPlan → (X → List Handover) → (X → Result Served ServeError) → List X
+    → List X → Type 0
+HaveHanded {X} plan put outcome before now =
+    (v : ℕ) (x : X) → v < length before → HasHanded (length before) v (share (length before) v plan.conns)
+    (put (slice_index_or now v x)) (outcome (slice_index_or now v x))
+
+module _ (w v : ℕ) where
+  each_is : (put : List Handover) (numbers : List ℕ) → map (λ h. h.client) put ≡ map client_of numbers
+      → map (λ h. h.connection) put ≡ map (λ j. v + j * w) numbers → All (λ h. h.worker ≡ v) put
+      → put ≡ map (handover w v) numbers
+  each_is [] [] clients connections own = refl
+  each_is [] (j ∷ numbers) clients connections own = absurd (cc)
+  each_is (h ∷ put) [] clients connections own = absurd (cc)
+  each_is (h ∷ put) (j ∷ numbers) clients connections own =
       let client : h.client ≡ client_of j
-      = head_same h.client (client_of j) (map (λ h. h.client) put) (map client_of numbers) clients in
-      let same : assignment_of h ≡ assignment_at at j
-      = head_same (assignment_of h) (assignment_at at j) (map assignment_of put) (map (assignment_at at) numbers)
-      assigned in
-      let first : h ≡ handover (workers_at at) (worker_at at) j
+      = first_same h.client (client_of j) (map (λ x. x.client) put) (map client_of numbers) clients in
+      let connection : h.connection ≡ v + j * w
+      = first_same h.connection (v + j * w) (map (λ x. x.connection) put) (map (λ i. v + i * w) numbers) connections in
+      let worker : h.worker ≡ v = All-head (λ x. x.worker ≡ v) h put own in
+      let first : h ≡ handover w v j
       = ap (λ c. let x : Handover = record { connection = h.connection; worker = h.worker; client = c } in x) client
-      ∙ ap (λ (t : ℕ × ℕ). let x : Handover
-      = record { connection = t.0; worker = t.1; client = client_of j } in x) same in
+      ∙ ap (λ n. let x : Handover = record { connection = n; worker = h.worker; client = client_of j } in x) connection
+      ∙ ap (λ n. let x : Handover = record { connection = v + j * w; worker = n; client = client_of j } in x) worker in
       ap (λ x. x ∷ put) first
-      ∙ ap (λ l. handover (workers_at at) (worker_at at) j ∷ l)
-      (both put numbers
-      (tail_same h.client (client_of j) (map (λ h. h.client) put) (map client_of numbers) clients)
-      (tail_same (assignment_of h) (assignment_at at j) (map assignment_of put) (map (assignment_at at) numbers)
-      assigned))
+      ∙ ap (λ l. handover w v j ∷ l)
+      (each_is put numbers
+      (rest_same h.client (client_of j) (map (λ x. x.client) put) (map client_of numbers) clients)
+      (rest_same h.connection (v + j * w) (map (λ x. x.connection) put) (map (λ i. v + i * w) numbers) connections)
+      (All-tail (λ x. x.worker ≡ v) h put own))
 
   put_is : (put : List Handover) (n : ℕ) → map (λ h. h.client) put ≡ clients_below n
-      → map assignment_of put ≡ map (assignment_at at) (below (length put))
-      → put ≡ handovers (workers_at at) (worker_at at) n
-  put_is put n clients assigned =
+      → map (λ h. h.connection) put ≡ map (λ j. v + j * w) (below (length put)) → All (λ h. h.worker ≡ v) put
+      → put ≡ handovers w v n
+  put_is put n clients connections own =
       let by_below : map (λ h. h.client) put ≡ map client_of (below n) = clients ∙ clients_are n in
       let long : length put ≡ n
       = sym (length-map put (λ h. h.client)) ∙ ap length by_below ∙ length-map (below n) client_of ∙ length_below n in
-      both put (below n) by_below (assigned ∙ ap (λ m. map (assignment_at at) (below m)) long)
+      each_is put (below n) by_below (connections ∙ ap (λ m. map (λ j. v + j * w) (below m)) long) own
 
-  by_door : (d : Door) (put : List Handover) → IsAtMost (role.Listener at) (door_place d).role
-      → map assignment_of put ≡ assignments_of d (length put)
-      → map assignment_of put ≡ map (assignment_at at) (below (length put))
-  by_door door.Unasked put role order =
-      let none : put ≡ [] = none_mapped assignment_of put order in
-      order ∙ ap (λ l. map (assignment_at at) (below (length l))) (sym none)
-  by_door (door.Open a) put (inl is) order = absurd (cc)
-  by_door (door.Open a) put (inr is) order =
-      let same : a ≡ at = cc in order ∙ ap (λ x. map (assignment_at x) (below (length put))) same
-  by_door (door.Closed a) put (inl is) order = absurd (cc)
-  by_door (door.Closed a) put (inr is) order =
-      let same : a ≡ at = cc in order ∙ ap (λ x. map (assignment_at x) (below (length put))) same
-
-  numbered : (conns : ℕ) (put : List Handover) (result : Result Served ServeError)
+  pub has_handed : (conns : ℕ) (put : List Handover) (result : Result Served ServeError)
       → AreNumbered conns [] (map (λ h. h.client) put) result
-      → map assignment_of put ≡ map (assignment_at at) (below (length put))
-      → HasHanded (workers_at at) (worker_at at) conns put result
-  numbered conns put (Ok served) clients assigned = put_is put conns clients assigned
-  numbered conns put (Err error) clients assigned = (clients.0, clients.1, put_is put clients.0 clients.2 assigned)
-
-  pub handed : (conns : ℕ) (old_door d : Door) (old put : List Handover) (result : Result Served ServeError)
-      → old_door ≡ door.Unasked → map assignment_of old ≡ assignments_of old_door (length old)
-      → AreNumbered conns (map (λ h. h.client) old) (map (λ h. h.client) put) result
-      → IsAtMost (role.Listener at) (door_place d).role → map assignment_of put ≡ assignments_of d (length put)
-      → HasHanded (workers_at at) (worker_at at) conns put result
-  handed conns old_door d old put result unasked first clients role order =
-      let none : old ≡ []
-      = none_mapped assignment_of old (first ∙ ap (λ x. assignments_of x (length old)) unasked) in
-      numbered conns put result
-      (subst (λ l. AreNumbered conns (map (λ h. h.client) l) (map (λ h. h.client) put) result) none clients)
-      (by_door d put role order)
-
-  pub handed_none : (conns : ℕ) (d : Door) (put : List Handover) (served : Served) → conns ≡ 0 → d ≡ door.Unasked
-      → map assignment_of put ≡ assignments_of d (length put)
-      → HasHanded (workers_at at) (worker_at at) conns put (Ok served)
-  handed_none conns d put served none unasked order =
-      none_mapped assignment_of put (order ∙ ap (λ x. assignments_of x (length put)) unasked)
-      ∙ ap (λ n. handovers (workers_at at) (worker_at at) n) (sym none)
-
-  -- where nothing was done
-  pub handed_not : (conns : ℕ) (d : Door) (put : List Handover) (error : ServeError) → d ≡ door.Unasked
-      → map assignment_of put ≡ assignments_of d (length put)
-      → HasHanded (workers_at at) (worker_at at) conns put (Err error)
-  handed_not conns d put error unasked order =
-      (0, omega arith, none_mapped assignment_of put (order ∙ ap (λ x. assignments_of x (length put)) unasked))
+      → map (λ h. h.connection) put ≡ map (λ j. v + j * w) (below (length put)) → All (λ h. h.worker ≡ v) put
+      → HasHanded w v conns put result
+  has_handed conns put (Ok served) clients connections own = put_is put conns clients connections own
+  has_handed conns put (Err error) clients connections own =
+      (clients.0, clients.1, put_is put clients.0 clients.2 connections own)
 
 -- ---- what all have put in
 
 module _ {X : Type 0} (put : X → List Handover) (lanes : List X) (w : ℕ) where
-  handed_all : (count : ℕ → ℕ) (n : ℕ)
+  pub handed_all : (count : ℕ → ℕ) (n : ℕ)
       → ((v : ℕ) → v < n → put_at put (slice_get lanes v) ≡ handovers w v (count v))
       → put_below put lanes n ≡ handed_by w count n
   handed_all count zero each = refl
@@ -202,8 +114,7 @@ all_of : (w v conns : ℕ) (put : List Handover) (result : Result Served ServeEr
 all_of w v conns put (Ok served) is has = has
 all_of w v conns put (Err error) is has = absurd (cc)
 
-module _ {X : Type 0} (plan : ProxyPlan) (put : X → List Handover) (early : X → Bool)
-    (outcome : X → Result Served ServeError) (before now : List X) (count : length now ≡ length before)
+module _ {X : Type 0} (plan : ProxyPlan) (put : X → List Handover) (outcome : X → Result Served ServeError) (before now : List X) (count : length now ≡ length before)
     (has : HaveHanded plan put outcome before now) where
   at_worker : (v : ℕ) (b : X) → v < length now → slice_get now v ≡ Some b
       → HasHanded (length before) v (share (length before) v plan.conns) (put b) (outcome b)
@@ -211,7 +122,7 @@ module _ {X : Type 0} (plan : ProxyPlan) (put : X → List Handover) (early : X 
       subst (λ x. HasHanded (length before) v (share (length before) v plan.conns) (put x) (outcome x))
       (get_or_from_slice_get now v b b at) (has v b (subst (λ n. v < n) count few))
 
-  firsts : (v : ℕ) → v < length now → (length (put_at put (slice_get now v)) ≤ share (length before) v plan.conns)
+  pub firsts : (v : ℕ) → v < length now → (length (put_at put (slice_get now v)) ≤ share (length before) v plan.conns)
       × (put_at put (slice_get now v) ≡ handovers (length before) v (length (put_at put (slice_get now v))))
   firsts v few =
       let b = element now v few in
@@ -249,15 +160,12 @@ module _ {X : Type 0} (plan : ProxyPlan) (put : X → List Handover) (early : X 
       ∙ ap (handed_by (length before) counts) count)
 
   pub are_handed : (old : List Handover) (done : Result (Unit {0}) ManyError) (answer : Result Served ManyError)
-      → Concludes done early outcome plan.conns now answer
+      → Concludes done outcome plan.conns now answer
       → AreHanded plan.conns (length before) old (old ++ put_below put now (length now)) answer
-  are_handed old (Ok done) (Ok served) is = all_handed old served is.all
-  are_handed old (Ok done) (Err error) is = some_handed old error
-  are_handed old (Err error) answer is =
-      subst (AreHanded plan.conns (length before) old (old ++ put_below put now (length now))) (sym is)
-      (some_handed old error)
+  are_handed old done (Ok served) is = all_handed old served is.1.all
+  are_handed old done (Err error) is = some_handed old error
 
-none_by : (w n : ℕ) → handed_by w (λ v. 0) n ≡ []
+pub none_by : (w n : ℕ) → handed_by w (λ v. 0) n ≡ []
 none_by w zero = refl
 none_by w (suc n) = append-nil (handed_by w (λ v. 0) n) ∙ none_by w n
 
@@ -285,14 +193,14 @@ pub put_all : {X : Type 0} (put : X → List Handover) (lanes slice : List X) (v
 put_all put lanes slice v old handed slice_is was end =
     was ∙ ap (λ n. old ++ put_below put lanes n) (sym end ∙ ap length slice_is)
 
-pub handed_of : {X N : Type 0} (plan : ProxyPlan) (put : X → List Handover) (early : X → Bool)
+pub handed_of : {X N : Type 0} (plan : ProxyPlan) (put : X → List Handover)
     (outcome : X → Result Served ServeError) (net : X → N) (before now : List X) (nets : List N)
     → map net before ≡ nets → length now ≡ length before → HaveHanded plan put outcome before now
     → (old new : List Handover) → new ≡ old ++ put_below put now (length now) → (done : Result (Unit {0}) ManyError)
-    (answer : Result Served ManyError) → Concludes done early outcome plan.conns now answer
+    (answer : Result Served ManyError) → Concludes done outcome plan.conns now answer
     → AreHanded plan.conns (length nets) old new answer
-handed_of plan put early outcome net before now nets nets_are count has old new new_is done answer is =
+handed_of plan put outcome net before now nets nets_are count has old new new_is done answer is =
     subst (λ l. AreHanded plan.conns (length nets) old l answer) (sym new_is)
     (subst (λ w. AreHanded plan.conns w old (old ++ put_below put now (length now)) answer)
     (sym (length-map before net) ∙ ap length nets_are)
-    (are_handed plan put early outcome before now count has old done answer is))
+    (are_handed plan put outcome before now count has old done answer is))

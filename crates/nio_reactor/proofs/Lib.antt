@@ -1,3 +1,4 @@
+pub mod Accounting
 pub mod Adding
 pub mod Asked
 pub mod Concluding
@@ -7,6 +8,8 @@ pub mod Gathered
 pub mod Handing
 pub mod Lists
 pub mod Placed
+pub mod Received
 pub mod Seating
 pub mod Seen
+pub mod Settling
 pub mod Worked

@@ -21,7 +21,7 @@ use Rattle.nio_reactor.specs.Seats.{acceptor_deal, channels_for, deal_of}
 
 -- ---- the share of a worker
 
-times_more : (a w : ℕ) → (a + 1) * w ≡ a * w + w
+pub times_more : (a w : ℕ) → (a + 1) * w ≡ a * w + w
 times_more a w = ap (λ m. m * w) (add-one a) ∙ suc-mul a w
 
 -- the next connection of the worker after its share is none of those
@@ -43,6 +43,49 @@ share_reaches w v (suc n) less =
     let rest : n ≢ v + share w v n * w = λ is. apart (omega (arith, is)) in
     omega (arith, so_far, same, rest))
     (cases_eq (n % w) v)
+
+-- a connection of the worker is the one that comes after its share below it
+exact_from : (w v n : ℕ) → v < w → n % w ≡ v → share w v n * w + v < n + w → v + share w v n * w ≡ n
+exact_from w v n less mine close =
+    let some : 0 < w = omega (arith, less) in
+    let reaches = share_reaches w v n less in
+    let parts : n % w + n / w * w ≡ n = mod-add-div' n w in
+    ⊎_elim
+    (λ (fewer : share w v n < n / w).
+    let far : (share w v n + 1) * w ≤ n / w * w = mul-le-mul_right w (omega (arith, fewer)) in
+    absurd (omega (arith, far, times_more (share w v n) w, reaches, parts, mine, some)))
+    (λ (most : n / w ≤ share w v n).
+    ⊎_elim
+    (λ (more : n / w < share w v n).
+    let far : (n / w + 1) * w ≤ share w v n * w = mul-le-mul_right w (omega (arith, more)) in
+    absurd (omega (arith, far, times_more (n / w) w, close, parts, mine)))
+    (λ (least : share w v n ≤ n / w).
+    let same : share w v n * w ≡ n / w * w = ap (λ m. m * w) (equal (share w v n) (n / w) least most) in
+    omega (arith, same, parts, mine))
+    (cases_lt (n / w) (share w v n)))
+    (cases_lt (share w v n) (n / w))
+  where
+    equal : (a b : ℕ) → a ≤ b → b ≤ a → a ≡ b
+    equal a b less more = omega (arith, less, more)
+
+share_close : (w v n : ℕ) → v < w → share w v n * w + v < n + w
+share_close w v zero less = omega (arith, less)
+share_close w v (suc n) less =
+    let so_far = share_close w v n less in
+    let next : share w v (n + 1) ≡ share w v (suc n) = ap (share w v) (add-one n) in
+    ⊎_elim
+    (λ (mine : n % w ≡ v).
+    let times : share w v (suc n) * w ≡ share w v n * w + w
+    = ap (λ m. m * w) (sym next ∙ share_mine w v n mine) ∙ times_more (share w v n) w in
+    omega (arith, times, exact_from w v n less mine so_far))
+    (λ (others : n % w ≡ v → ⊥).
+    let same : share w v (suc n) * w ≡ share w v n * w
+    = ap (λ m. m * w) (sym next ∙ share_others w v n others) in
+    omega (arith, so_far, same))
+    (cases_eq (n % w) v)
+
+pub share_exact : (w v n : ℕ) → v < w → n % w ≡ v → v + share w v n * w ≡ n
+share_exact w v n less mine = exact_from w v n less mine (share_close w v n less)
 
 -- a connection is one of its worker's share
 pub within_share : (w n k : ℕ) → 0 < w → k < n → k / w < share w (k % w) n

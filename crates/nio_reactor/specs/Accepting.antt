@@ -32,9 +32,10 @@ pub record Accepts {N : Type 0} (m : Meanings N) (accepted : N → List ChanNo) 
   pub later : m.faults x listener ≤ m.faults y listener
   pub polls : m.polls x ≤ m.polls y
 
--- where the connections below k were sent on these lines, after others, those below n are
+-- where the connections below k were sent on these lines, after others, those below n are; the lines are the same
 pub record Deals {L : Type 0} (k n : ℕ) (before now : List (LineEnd (Message L))) : Type 0 where
   pub count : length now ≡ length before
+  pub same : map (λ e. e.line) now ≡ map (λ e. e.line) before
   pub dealt : (w v : ℕ) (x y : LineEnd (Message L)) (start : List (Option ℕ)) → length before ≡ w
       → slice_get before v ≡ Some x → slice_get now v ≡ Some y → map number_of x.carried ≡ start ++ dealt w v k
       → map number_of y.carried ≡ start ++ dealt w v n
@@ -42,12 +43,14 @@ pub record Deals {L : Type 0} (k n : ℕ) (before now : List (LineEnd (Message L
 -- `End` was sent on each line
 pub record AreEnded {L : Type 0} (before now : List (LineEnd (Message L))) : Type 0 where
   pub count : length now ≡ length before
+  pub same : map (λ e. e.line) now ≡ map (λ e. e.line) before
   pub ended : (v : ℕ) (x y : LineEnd (Message L)) → slice_get before v ≡ Some x → slice_get now v ≡ Some y
       → y.carried ≡ x.carried ++ End ∷ []
 
 -- the same of the first k lines; the others are as they were
 pub record EndedBelow {L : Type 0} (k : ℕ) (before now : List (LineEnd (Message L))) : Type 0 where
   pub count : length now ≡ length before
+  pub same : map (λ e. e.line) now ≡ map (λ e. e.line) before
   pub ended : (v : ℕ) (x y : LineEnd (Message L)) → v < k → slice_get before v ≡ Some x → slice_get now v ≡ Some y
       → y.carried ≡ x.carried ++ End ∷ []
   pub rest : (v : ℕ) (x y : LineEnd (Message L)) → k ≤ v → slice_get before v ≡ Some x → slice_get now v ≡ Some y
@@ -60,6 +63,7 @@ pub record HasSent {L : Type 0} (accepted_before accepted_now : List ChanNo) (be
   pub count : ℕ
   pub accepted : accepted_now ≡ accepted_before ++ clients_below count
   pub lines : length now ≡ length before
+  pub same : map (λ e. e.line) now ≡ map (λ e. e.line) before
   pub sent : (v : ℕ) (x y : LineEnd (Message L)) → slice_get before v ≡ Some x → slice_get now v ≡ Some y
       → map number_of y.carried ≡ map number_of x.carried ++ dealt (length before) v count ++ None ∷ []
 

@@ -1,10 +1,7 @@
 -- What the address of a worker's line says.
-use Rattle.std.specs.Prelude.{ℕ, ◌/◌, ◌%◌}
+use Rattle.std.specs.Prelude.{ℕ}
 use Rattle.nio_base.specs.declared.numbers.Addr.{Addr}
 
--- whose line it is, of how many workers
+-- whose line it is
 abbrev pub worker_at : Addr → ℕ
-worker_at at = at.port % 16
-
-abbrev pub workers_at : Addr → ℕ
-workers_at at = at.port / 16
+worker_at at = at.port

@@ -1,10 +1,10 @@
 pub mod Accepting
-pub mod Assignments
 pub mod Dealing
 pub mod Doors
 pub mod Handing
 pub mod Lanes
 pub mod Many
 pub mod Placing
+pub mod Receiving
 pub mod Seats
 pub mod Working

@@ -1,5 +1,5 @@
 -- What one worker has come to.
-use Rattle.std.specs.Prelude.{◌≡◌, ℕ, ◌<◌, ◌≤◌, ◌⊎◌, Bool, false, IsTrue, IfOk, IsOk, Result, Ok, Err, Option, Some}
+use Rattle.std.specs.Prelude.{◌≡◌, ◌≢◌, ℕ, ◌<◌, ◌⊎◌, Bool, IsTrue, IfOk, IsOk, Result, Ok, Err, Option, Some}
 use Rattle.std.specs.Prelude.{None, All, option_map, List, length, slice_get, slice_index_or}
 use Rattle.nio_base.specs.declared.numbers.Addr.{Addr}
 use Rattle.nio_base.specs.declared.numbers.ChanNo.{ChanNo}
@@ -10,11 +10,9 @@ use Rattle.nio_relay.specs.declared.plan.ProxyPlan.{ProxyPlan}
 use Rattle.nio_relay.specs.declared.plan.Served.{Served}
 use Rattle.nio_serve.specs.Serving.{NoneRose, RelaysBytes, WasClean}
 use Rattle.nio_serve.specs.declared.serving.ServeError.{ServeError}
-use Rattle.nio_serve.specs.declared.serving.ServeError.TheVariants.{NetFault}
+use Rattle.nio_serve.specs.declared.serving.ServeError.TheVariants.{NetFault, Memory}
 use Rattle.nio_reactor.specs.Dealing.{share}
 use Rattle.nio_reactor.specs.Many.{Meanings, HasServedPart, LeavesWorker, sum_below}
-use Rattle.nio_reactor.specs.declared.door.Door.{Door}
-use Rattle.nio_reactor.specs.declared.door.Door.TheVariants.{Unasked}
 use Rattle.nio_reactor.specs.declared.many.ManyError.{ManyError}
 use Rattle.nio_reactor.specs.declared.many.ManyError.TheVariants as many
 
@@ -22,15 +20,6 @@ use Rattle.nio_reactor.specs.declared.many.ManyError.TheVariants as many
 pub record IsFresh {N : Type 0} (m : Meanings N) (net : N) : Type 0 where
   pub fresh : (c : ChanNo) → IsUnused (m.link net c)
   pub unasked : (c : ChanNo) → m.place net c ≡ unused
-
--- workers that have done nothing yet: `net`, `door` and `early` are what their lanes show
-pub record CanWork {X N : Type 0} (m : Meanings N) (plan : ProxyPlan) (net : X → N) (door : X → Door)
-    (early : X → Bool) (lanes : List X) : Type 0 where
-  pub conns : plan.conns ≤ 16000
-  pub few : length lanes ≤ 15
-  pub nets : All (λ l. IsFresh m (net l)) lanes
-  pub doors : All (λ l. door l ≡ Unasked) lanes
-  pub on_time : All (λ l. early l ≡ false) lanes
 
 -- every connection was clean
 pub record IsCleanPart {N : Type 0} (m : Meanings N) (conns : ℕ) (net : N) (served : Served) : Type 0 where
@@ -76,24 +65,30 @@ pub record AddsAll {X : Type 0} (outcome : X → Result Served ServeError) (conn
   pub faults : served.faults ≡ sum_below (λ v. faults_of (option_map outcome (slice_get lanes v))) (length lanes)
   pub all : (v : ℕ) (x : X) → slice_get lanes v ≡ Some x → IsOk (outcome x)
 
--- a poll of this worker's net has failed
-pub record APollFailed {X : Type 0} (early : X → Bool) (outcome : X → Result Served ServeError) (lanes : List X)
+-- a worker has ended for this reason
+pub record HasEnded {X : Type 0} (reason : ServeError) (outcome : X → Result Served ServeError) (lanes : List X)
     : Type 0 where
   pub worker : ℕ
   pub lane : X
   pub is : slice_get lanes worker ≡ Some lane
-  pub fault : outcome lane ≡ Err NetFault
-  pub on_time : early lane ≡ false
+  pub reason_is : outcome lane ≡ Err reason
 
--- what the workers came to, together
-abbrev pub AddsUp : {X : Type 0} → (X → Bool) → (X → Result Served ServeError) → ℕ → List X → Result Served ManyError
-    → Type 0
-AddsUp early outcome conns lanes (Ok served) = AddsAll outcome conns lanes served
-AddsUp early outcome conns lanes (Err many.NetFault) = APollFailed early outcome lanes
-AddsUp early outcome conns lanes (Err many.Memory) = Unit {0}
+-- none has
+abbrev pub NoneHasEnded : {X : Type 0} → ServeError → (X → Result Served ServeError) → List X → Type 0
+NoneHasEnded reason outcome lanes = All (λ l. outcome l ≢ Err reason) lanes
 
--- what the proxy answers, by what its acceptor came to
-abbrev pub Concludes : {X : Type 0} → Result (Unit {0}) ManyError → (X → Bool) → (X → Result Served ServeError) → ℕ
-    → List X → Result Served ManyError → Type 0
-Concludes (Ok done) early outcome conns lanes result = AddsUp early outcome conns lanes result
-Concludes (Err error) early outcome conns lanes result = result ≡ Err error
+-- what the workers came to, together, where none lacked memory
+abbrev pub AddsUp : {X : Type 0} → (X → Result Served ServeError) → ℕ → List X → Result Served ManyError → Type 0
+AddsUp outcome conns lanes (Ok served) = AddsAll outcome conns lanes served
+AddsUp outcome conns lanes (Err many.NetFault) = HasEnded NetFault outcome lanes
+AddsUp outcome conns lanes (Err many.Memory) = ⊥
+
+-- What the proxy answers, by what its acceptor and its workers came to: that memory lacked comes before all else.
+abbrev pub Concludes : {X : Type 0} → Result (Unit {0}) ManyError → (X → Result Served ServeError) → ℕ → List X
+    → Result Served ManyError → Type 0
+Concludes accepted outcome conns lanes (Ok served) = IsOk accepted × AddsAll outcome conns lanes served
+Concludes accepted outcome conns lanes (Err many.NetFault) =
+    NoneHasEnded Memory outcome lanes
+    × ((accepted ≡ Err many.NetFault) ⊎ (IsOk accepted × HasEnded NetFault outcome lanes))
+Concludes accepted outcome conns lanes (Err many.Memory) =
+    (accepted ≡ Err many.Memory) ⊎ HasEnded Memory outcome lanes

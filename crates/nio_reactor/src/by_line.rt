@@ -1,13 +1,12 @@
 //! The way of a worker: its links come on a line.
 
-use crate::door::{Door, worker_at, workers_at};
-use crate::handed::Handed;
+use crate::door::{Door, is_door_of};
 use crate::handover::Handover;
-use crate::lane::{Heard, Lane};
-use crate::message::Message;
+use crate::heard::{Heard, hear, take_link};
+use crate::lane::Lane;
+use crate::lines::Lines;
 use nio_base::{Addr, ChanNo, Gate, Ops};
 use nio_history::{Milliseconds, Mode};
-use nio_line::LineOut;
 use nio_link::{Failed, Got, Net, Passable, Put};
 use nio_poller::{PollError, Poller};
 use nio_select::{Asked, Told};
@@ -15,7 +14,6 @@ use nio_serve::Way;
 use nio_steps::LookedKey;
 use nio_trace::{Reading, Trace};
 use std::alloc::Global;
-use std::mem;
 use std::sync::Wait;
 
 /// How long a worker's poll waits at most, while further links may come, where no bell rings for them: 4 ms.
@@ -31,7 +29,6 @@ const LONG_WAIT: Mode = Mode::For(Milliseconds {
 pub(crate) struct ByLine<'a, H, G> {
     rt: &'a H,
     gate: &'a G,
-    worker: u32,
     /// How long a poll waits, while further links may come.
     wait: Mode,
     /// The index of the listener's key, once a poll was asked for it.
@@ -39,13 +36,12 @@ pub(crate) struct ByLine<'a, H, G> {
 }
 
 impl<'a, H, G> ByLine<'a, H, G> {
-    /// The way of this worker. `has_bell` says that a bell rings where a link was sent.
-    pub(crate) fn over(rt: &'a H, gate: &'a G, worker: u32, has_bell: bool) -> ByLine<'a, H, G> {
+    /// The way of a worker. `has_bell` says that a bell rings where a link was sent.
+    pub(crate) fn over(rt: &'a H, gate: &'a G, has_bell: bool) -> ByLine<'a, H, G> {
         let wait = if has_bell { LONG_WAIT } else { SHORT_WAIT };
         ByLine {
             rt,
             gate,
-            worker,
             wait,
             listener: None,
         }
@@ -82,60 +78,13 @@ fn first_key(asked: &Asked) -> Option<u32> {
     None
 }
 
-// The next message of a line: waits for it, or takes one that has come.
-fn next_message<R: Wait, L: Drop>(
-    rt: &R,
-    line: &mut LineOut<Message<L>>,
-    waits: bool,
-) -> Option<Message<L>> {
-    if waits {
-        Some(line.receive(rt))
-    } else {
-        line.try_receive(rt)
-    }
-}
-
-// Takes the next message of the line, unless one was taken that wasn't used yet. The link of a connection passes the
-// test gate.
-fn hear<R: Wait, G: Gate, L: Drop>(
-    rt: &R,
-    gate: &G,
-    worker: u32,
-    line: &mut LineOut<Message<L>>,
-    heard: &mut Heard<L>,
-    waits: bool,
-) {
-    if !matches!(heard, Heard::Nothing) {
-        return;
-    }
-    match next_message(rt, line, waits) {
-        Some(Message::Work(handed)) => {
-            gate.pass(rt, worker, u64::from(handed.number()));
-            *heard = Heard::Link(handed);
-        }
-        Some(Message::End) => *heard = Heard::End,
-        None => {}
-    }
-}
-
-// The next link, if it has come.
-fn take_link<L: Drop>(heard: &mut Heard<L>) -> Option<Handed<L>> {
-    match mem::replace(heard, Heard::Nothing) {
-        Heard::Link(handed) => Some(handed),
-        Heard::Nothing => None,
-        Heard::End => {
-            *heard = Heard::End;
-            None
-        }
-    }
-}
-
-impl<'a, H: Wait, N: Passable, G: Gate> Way<Lane<N>> for ByLine<'a, H, G> {
+impl<'a, H: Wait, N: Passable, K: Lines<N::Link>, G: Gate> Way<Lane<N, K>> for ByLine<'a, H, G> {
     ghost use Rattle.std.proofs.Common.{refl, ap, ◌∙◌, ◌==◌, if◌then◌else◌, map};
     ghost use Rattle.nio_reactor.specs.Lanes.{door_place, seen, place_over, faults_over, ready_over, polls_over};
     ghost use Rattle.nio_reactor.specs.Lanes.{IsKept};
+    ghost use Rattle.nio_reactor.specs.Receiving.{is_early};
 
-    ghost poll_faults = { λ l. polls_over l.is_early (N.poll_faults l.net) };
+    ghost poll_faults = { λ l. polls_over (is_early l.heard) (N.poll_faults l.net) };
 
     ghost ready = { λ l. ready_over l.told_line l.asked (N.ready l.net) };
 
@@ -162,14 +111,18 @@ impl<'a, H: Wait, N: Passable, G: Gate> Way<Lane<N>> for ByLine<'a, H, G> {
 
     fn poll<R: Wait>(
         &mut self,
-        lane: &mut Lane<N>,
+        lane: &mut Lane<N, K>,
         rt: &R,
         alloc: Global,
         asked: &Asked,
         mode: Mode,
     ) -> Result<Told, PollError> {
-        if lane.is_stuck || lane.is_early {
+        if matches!(lane.heard, Heard::Refused(_) | Heard::Early) {
             return Err(PollError::Memory);
+        }
+        if lane.left == 0 || !is_door_of(lane.worker, lane.door) {
+            lane.told_line = None;
+            return lane.net.poll(rt, alloc, asked, mode);
         }
         let Some(index) = self.listener_key(asked) else {
             lane.told_line = None;
@@ -179,14 +132,14 @@ impl<'a, H: Wait, N: Passable, G: Gate> Way<Lane<N>> for ByLine<'a, H, G> {
         hear(
             rt,
             self.gate,
-            self.worker,
+            lane.worker,
             &mut lane.line,
             &mut lane.heard,
             is_idle,
         );
         match lane.heard {
             Heard::End if is_idle => {
-                lane.is_early = true;
+                lane.heard = Heard::Early;
                 return Err(PollError::Fault);
             }
             // the connections that are live go on
@@ -198,6 +151,7 @@ impl<'a, H: Wait, N: Passable, G: Gate> Way<Lane<N>> for ByLine<'a, H, G> {
                 lane.told_line = None;
                 return lane.net.poll(rt, alloc, asked, self.wait);
             }
+            Heard::Refused(_) | Heard::Early => return Err(PollError::Memory),
             Heard::Link(_) => {}
         }
         if lane.told_line.is_some() {
@@ -218,10 +172,9 @@ impl<'a, H: Wait, N: Passable, G: Gate> Way<Lane<N>> for ByLine<'a, H, G> {
         })
     }
 
-    fn listen(&mut self, lane: &mut Lane<N>, chan: ChanNo, at: Addr) -> Result<(), Failed> {
+    fn listen(&mut self, lane: &mut Lane<N, K>, chan: ChanNo, at: Addr) -> Result<(), Failed> {
         if chan.0 == 0 {
             lane.door = Door::Open(at);
-            lane.next = u64::from(worker_at(at));
             return Ok(());
         }
         lane.net.listen(chan, at)
@@ -229,20 +182,17 @@ impl<'a, H: Wait, N: Passable, G: Gate> Way<Lane<N>> for ByLine<'a, H, G> {
 
     fn accept(
         &mut self,
-        lane: &mut Lane<N>,
+        lane: &mut Lane<N, K>,
         listener: ChanNo,
         chan: ChanNo,
     ) -> Result<bool, Failed> {
-        let Door::Open(at) = lane.door else {
-            return Ok(false);
-        };
-        if listener.0 != 0 {
+        if listener.0 != 0 || lane.left == 0 || !is_door_of(lane.worker, lane.door) {
             return Ok(false);
         }
         hear(
             self.rt,
             self.gate,
-            self.worker,
+            lane.worker,
             &mut lane.line,
             &mut lane.heard,
             false,
@@ -251,18 +201,14 @@ impl<'a, H: Wait, N: Passable, G: Gate> Way<Lane<N>> for ByLine<'a, H, G> {
             return Ok(false);
         };
         let (connection, link) = handed.into_parts();
-        if u64::from(connection) != lane.next {
-            lane.is_stuck = true;
-            return Ok(false);
-        }
         if lane.net.put_in(chan, link).is_err() {
-            lane.is_stuck = true;
+            lane.heard = Heard::Refused(connection);
             return Ok(false);
         }
-        lane.next = u64::from(connection) + u64::from(workers_at(at));
+        lane.left -= 1;
         lane.put.push(&Handover {
             connection,
-            worker: worker_at(at),
+            worker: lane.worker,
             client: chan,
         });
         Ok(true)
@@ -270,7 +216,7 @@ impl<'a, H: Wait, N: Passable, G: Gate> Way<Lane<N>> for ByLine<'a, H, G> {
 
     fn connect(
         &mut self,
-        lane: &mut Lane<N>,
+        lane: &mut Lane<N, K>,
         chan: ChanNo,
         to: Addr,
     ) -> Option<Result<bool, Failed>> {
@@ -280,32 +226,37 @@ impl<'a, H: Wait, N: Passable, G: Gate> Way<Lane<N>> for ByLine<'a, H, G> {
         Some(lane.net.connect(chan, to))
     }
 
-    fn finish_connect(&mut self, lane: &mut Lane<N>, chan: ChanNo) -> Result<bool, Failed> {
+    fn finish_connect(&mut self, lane: &mut Lane<N, K>, chan: ChanNo) -> Result<bool, Failed> {
         if lane.told_line.is_some() {
             return Ok(false);
         }
         lane.net.finish_connect(chan)
     }
 
-    fn read(&mut self, lane: &mut Lane<N>, chan: ChanNo, into: &mut [u8]) -> Result<Got, Failed> {
+    fn read(
+        &mut self,
+        lane: &mut Lane<N, K>,
+        chan: ChanNo,
+        into: &mut [u8],
+    ) -> Result<Got, Failed> {
         if lane.told_line.is_some() {
             return Ok(Got::NotYet);
         }
         lane.net.read(chan, into)
     }
 
-    fn write(&mut self, lane: &mut Lane<N>, chan: ChanNo, from: &[u8]) -> Result<Put, Failed> {
+    fn write(&mut self, lane: &mut Lane<N, K>, chan: ChanNo, from: &[u8]) -> Result<Put, Failed> {
         if lane.told_line.is_some() {
             return Ok(Put::NotYet);
         }
         lane.net.write(chan, from)
     }
 
-    fn shut_write(&mut self, lane: &mut Lane<N>, chan: ChanNo) -> Result<(), Failed> {
+    fn shut_write(&mut self, lane: &mut Lane<N, K>, chan: ChanNo) -> Result<(), Failed> {
         lane.net.shut_write(chan)
     }
 
-    fn close(&mut self, lane: &mut Lane<N>, chan: ChanNo) {
+    fn close(&mut self, lane: &mut Lane<N, K>, chan: ChanNo) {
         if chan.0 == 0 {
             if let Door::Open(at) = lane.door {
                 lane.door = Door::Closed(at);

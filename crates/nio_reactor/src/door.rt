@@ -1,6 +1,7 @@
 //! Where the loop of a worker listens.
-ghost use Rattle.std.specs.Prelude.{◌≡◌, ◌<◌, ◌+◌, ◌*◌};
-ghost use Rattle.nio_reactor.specs.Doors.{worker_at, workers_at};
+ghost use Rattle.std.specs.Prelude.{◌≡◌, ◌<◌};
+ghost use Rattle.nio_reactor.specs.Doors.{worker_at};
+ghost use Rattle.nio_reactor.specs.Receiving.{is_door_of};
 
 use nio_base::Addr;
 
@@ -13,29 +14,23 @@ pub(crate) enum Door {
     Closed(Addr),
 }
 
-/// The address of the line of this worker, of so many.
-pub(crate) fn address_of(workers: u32, worker: u32) -> Addr
-    requires few { workers < 16 }
-    requires one { worker < 16 }
-    ensures worker { worker_at result ≡ worker }
-    ensures workers { workers_at result ≡ workers }
+/// The address of the line of this worker.
+pub(crate) fn address_of(worker: u32) -> Addr
+    requires { worker < 16 }
+    ensures { worker_at result ≡ worker }
 {
     Addr {
         ip: [0; 4],
-        port: 16 * workers as u16 + worker as u16,
+        port: worker as u16,
     }
 }
 
-/// The worker whose line has this address.
-pub(crate) fn worker_at(at: Addr) -> u32
-    ensures { result ≡ worker_at at }
+/// The door is that of this worker's line.
+pub(crate) fn is_door_of(worker: u32, door: Door) -> bool
+    ensures { result ≡ is_door_of worker door }
 {
-    u32::from(at.port % 16)
-}
-
-/// How many workers there are.
-pub(crate) fn workers_at(at: Addr) -> u32
-    ensures { result ≡ workers_at at }
-{
-    u32::from(at.port / 16)
+    match door {
+        Door::Unasked => false,
+        Door::Open(at) | Door::Closed(at) => u32::from(at.port) == worker,
+    }
 }

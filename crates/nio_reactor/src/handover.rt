@@ -1,5 +1,6 @@
 //! Which connections' links were put in.
 use crate::lane::Lane;
+use crate::lines::Lines;
 use nio_base::ChanNo;
 use nio_link::Passable;
 use nio_trace::Reading;
@@ -19,6 +20,6 @@ pub struct Handover {
 /// Reads what a worker has put in.
 pub(crate) struct PutIn;
 
-impl<N: Passable> Reading<Lane<N>, Handover> for PutIn {
+impl<N: Passable, K: Lines<N::Link>> Reading<Lane<N, K>, Handover> for PutIn {
     ghost items = { λ lane. lane.put };
 }

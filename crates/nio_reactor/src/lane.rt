@@ -1,14 +1,17 @@
 //! What a worker works on.
-ghost use Rattle.std.specs.Prelude.{◌≡◌, length, map};
+ghost use Rattle.std.specs.Prelude.{◌≡◌, ◌+◌, ◌<◌, ◌++◌, ◌⊎◌, [], All, IsFalse, IsTrue, Some, length, map, slice_get};
+ghost use mathlib.Core.List.{IsPrefix};
 ghost use Rattle.nio_link.specs.Places.{unused};
 ghost use Rattle.nio_serve.specs.Serving.{listener};
-ghost use Rattle.nio_reactor.specs.Assignments.{assignment_of, assignments_of, next_of};
+ghost use Rattle.nio_reactor.specs.Dealing.{number_of, share};
+ghost use Rattle.nio_reactor.specs.Receiving.{in_hand, is_door_of, is_early, put_number};
 
 use crate::door::Door;
-use crate::handed::Handed;
 use crate::handover::Handover;
+use crate::heard::Heard;
+use crate::lines::Lines;
 use crate::message::Message;
-use nio_line::LineOut;
+use nio_line::{LineIn, LineOut};
 use nio_link::Passable;
 use nio_relay::Served;
 use nio_serve::ServeError;
@@ -16,32 +19,23 @@ use nio_steps::LookedKey;
 use nio_trace::Trace;
 use nio_words::Pass;
 use std::alloc::Global;
-
-/// What came last on a line, and wasn't used yet.
-#[derive(Drop)]
-pub(crate) enum Heard<L> {
-    Nothing,
-    Link(Handed<L>),
-    End,
-}
+use std::marker::PhantomData;
 
 /// A worker's net, with the line on which its links come. The net itself has no listener.
 #[derive(Drop)]
-pub(crate) struct Lane<N: Passable> {
+pub(crate) struct Lane<N: Passable, K: Lines<N::Link>> {
     /// Where the worker's selections and its buffers are allocated.
     pub alloc: Global,
     pub net: N,
+    /// The worker's number, which is that of its line.
+    pub worker: u32,
     pub line: LineOut<Message<N::Link>>,
     /// A bell rings where a link was sent.
     pub has_bell: bool,
     pub heard: Heard<N::Link>,
     pub door: Door,
-    /// The number of the connection whose link comes next.
-    pub next: u64,
-    /// The line ended before all links had come, and no connection was live then.
-    pub is_early: bool,
-    /// The net had no memory for a link, or a link came out of order: no more can be put in.
-    pub is_stuck: bool,
+    /// How many of the worker's links weren't put in yet.
+    pub left: u32,
     /// The last poll told of the line alone: of the key with this index.
     pub told_line: Option<u32>,
     /// What that poll was asked.
@@ -50,48 +44,73 @@ pub(crate) struct Lane<N: Passable> {
     pub put: Trace<Handover>,
     /// What the worker came to.
     pub outcome: Result<Served, ServeError>,
+    pub lines: PhantomData<K>,
     ghost spare: { N.place net listener ≡ unused },
-    ghost order: { map assignment_of put ≡ assignments_of door (length put) },
-    ghost due: { next ≡ next_of door (length put) },
+    ghost its: { slice_get K.lines worker ≡ Some line.line },
+    ghost at_door: { IsFalse (is_door_of worker door) → length line.carried ≡ 0 },
+    ghost numbers: { map number_of line.carried ≡ map put_number put ++ in_hand heard },
+    ghost own: { All (λ h. h.worker ≡ worker) put },
+    ghost count: { left + length put ≡ share (length K.lines) worker K.conns },
+    ghost early: { IsTrue (is_early heard) → 0 < left },
 }
 
 /// A worker: its lane, and the pass that has its number at the shared table.
 #[derive(Drop)]
-pub(crate) struct Worker<N: Passable> {
-    pub lane: Lane<N>,
+pub(crate) struct Worker<N: Passable, K: Lines<N::Link>> {
+    pub lane: Lane<N, K>,
     pub pass: Pass,
 }
 
-impl<N: Passable> Lane<N> {
-    ghost use Rattle.std.specs.Prelude.{[], None, false};
+impl<N: Passable, K: Lines<N::Link>> Lane<N, K> {
+    ghost use Rattle.std.specs.Prelude.{false};
     ghost use Rattle.nio_reactor.specs.declared.door.Door.TheVariants.{Unasked};
 
-    /// A worker that has done nothing yet.
+    /// The lane of this worker, which has done nothing yet. So many links are to come on its line.
     pub(crate) fn over(
         alloc: Global,
         net: N,
+        worker: u32,
         line: LineOut<Message<N::Link>>,
+        left: u32,
         has_bell: bool,
-    ) -> Lane<N>
-        requires { N.place net listener ≡ unused }
+    ) -> Lane<N, K>
+        requires unused { N.place net listener ≡ unused }
+        requires its { slice_get K.lines worker ≡ Some line.line }
+        requires new { line.carried ≡ [] }
+        requires all { left ≡ share (length K.lines) worker K.conns }
         ensures net { result.net ≡ net }
+        ensures line { result.line ≡ line }
         ensures door { result.door ≡ Unasked }
-        ensures on_time { result.is_early ≡ false }
+        ensures on_time { is_early result.heard ≡ false }
     {
         Lane {
             alloc,
             net,
+            worker,
             line,
             has_bell,
             heard: Heard::Nothing,
             door: Door::Unasked,
-            next: 0,
-            is_early: false,
-            is_stuck: false,
+            left,
             told_line: None,
             asked: Trace::new(),
             put: Trace::new(),
             outcome: Err(ServeError::Memory),
+            lines: PhantomData,
         }
+    }
+
+    /// Takes in the end of line `number` that sends, if that is this lane's line, and gives back the net.
+    pub(crate) fn settle(self, number: u32, entry: LineIn<Message<N::Link>>) -> N
+        requires entry { slice_get K.lines number ≡ Some entry.line }
+        requires own { (self.line.carried ≡ []) ⊎ (self.worker ≡ number) }
+        ensures net { result ≡ self.net }
+        ensures prefix { IsPrefix self.line.carried entry.carried }
+    {
+        let mut line = self.line;
+        if self.worker == number {
+            line.settle(entry);
+        }
+        self.net
     }
 }

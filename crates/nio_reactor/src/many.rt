@@ -1,29 +1,32 @@
 //! Serving a plan with one selector that accepts and others that work.
-ghost use Rattle.std.specs.Prelude.{◌≡◌, ◌<◌, ◌≤◌, ◌+◌, ◌++◌, [], false, All, IfOk, OnErr, OnOk, length, map};
+ghost use Rattle.std.specs.Prelude.{◌≡◌, ◌<◌, ◌≤◌, ◌+◌, ◌++◌, [], false, All, IfOk, IsFalse, IsTrue, OnErr, OnOk, length};
+ghost use Rattle.std.specs.Prelude.{map};
 ghost use Rattle.std.specs.Prelude.{vec_capacity};
-ghost use Rattle.std.specs.Thread.{IsSend, IsSync};
 ghost use Rattle.nio_base.specs.declared.numbers.ChanNo.{ChanNo as Channel};
 ghost use Rattle.nio_link.specs.Links.{IsUnused};
 ghost use Rattle.nio_link.specs.Places.{unused};
 ghost use Rattle.nio_orderly.specs.Orderly.{IsOrderly, IsWhole};
 ghost use Rattle.nio_relay.specs.Plan.{IsServable};
 ghost use Rattle.nio_serve.specs.Serving.{listener};
-ghost use Rattle.nio_words.specs.Passes.{IsPassOf, seen};
-ghost use Rattle.nio_reactor.specs.Accepting.{CanAccept, HasAccepted};
-ghost use Rattle.nio_reactor.specs.Handing.{AreHanded, HaveHanded, put_below};
+ghost use Rattle.nio_serve.specs.declared.serving.ServeError.TheVariants.{Memory as LacksMemory};
+ghost use Rattle.nio_words.specs.Passes.{IsPassOf, limits_of, seen};
+ghost use Rattle.nio_reactor.specs.Accepting.{CanAccept, HasAccepted, HasSent};
+ghost use Rattle.nio_reactor.specs.Handing.{AccountsForLinks, AreHanded, put_below};
 ghost use Rattle.nio_reactor.specs.Many.{meanings, AreAccepted, LeavesAcceptor, LeavesWorkers, NoneRoseOfAll};
 ghost use Rattle.nio_reactor.specs.Many.{RelayBytes, ServesAllCleanOr, ServesMany};
 ghost use Rattle.nio_reactor.specs.Placing.{ArePlaced, HoldsAll, caller, served_of, table_for};
+ghost use Rattle.nio_reactor.specs.Receiving.{AreOwn, AreSettled, HaveReceived, is_early};
 ghost use Rattle.nio_reactor.specs.Seats.{HaveSeats, IsNewcomer, LeaveSeats, LeavesSeat, StandsIn, acceptor_deal};
-ghost use Rattle.nio_reactor.specs.Working.{AddsUp, CanWork, Concludes, HaveWorked, IsFresh};
+ghost use Rattle.nio_reactor.specs.Working.{AddsUp, Concludes, HasEnded, HaveWorked, IsFresh, NoneHasEnded};
 ghost use Rattle.nio_reactor.specs.declared.door.Door.TheVariants.{Unasked};
 
 use crate::accepting::accept_all;
 use crate::handover::{Handover, PutIn};
 use crate::lane::{Lane, Worker};
+use crate::lines::Lines;
 use crate::message::{Message, Outgoing};
 use crate::table::{limits_for, set_up};
-use crate::working::work_all;
+use crate::working::{share_of, work_all};
 use nio_base::Gate;
 use nio_line::{LineIn, LineOut, open};
 use nio_link::Passable;
@@ -33,8 +36,8 @@ use nio_serve::ServeError;
 use nio_trace::Trace;
 use nio_words::{Pass, Words};
 use std::alloc::{AllocError, Global};
+use std::marker::Brand;
 use std::sync::Wait;
-use std::thread;
 use std::thread::Threads;
 use thiserror::Error;
 
@@ -58,6 +61,9 @@ fn open_lines<L: Drop>(
     requires { 0 < room }
     ensures entries { IfOk result (λ lines. length lines.0.items ≡ workers) }
     ensures exits { IfOk result (λ lines. length lines.1.items ≡ workers) }
+    ensures lines { IfOk result (λ lines. map (λ e. e.line) lines.0.items ≡ map (λ e. e.line) lines.1.items) }
+    ensures sent { IfOk result (λ lines. All (λ e. e.carried ≡ []) lines.0.items) }
+    ensures received { IfOk result (λ lines. All (λ e. e.carried ≡ []) lines.1.items) }
 {
     let mut entries = Vec::with_capacity(alloc, workers)?;
     let mut exits = Vec::with_capacity(alloc, workers)?;
@@ -71,20 +77,25 @@ fn open_lines<L: Drop>(
 
 // Takes the nets, each for a worker with one of the lines and one of the passes. The first `bells` of them have bells.
 // Where memory lacks they stay.
-fn staff<N: Passable + Drop>(
+fn staff<N: Passable + Drop, K: Lines<N::Link>>(
     alloc: Global,
     more: &mut Vec<N>,
     lines: Vec<LineOut<Message<N::Link>>>,
     passes: Vec<Pass>,
     bells: usize,
-) -> Result<Vec<Worker<N>>, AllocError>
-    requires lines { length lines.items ≡ length more.old.items }
+    conns: u32,
+) -> Result<Vec<Worker<N, K>>, AllocError>
+    requires lines { map (λ e. e.line) lines.items ≡ K.lines }
+    requires new { All (λ e. e.carried ≡ []) lines.items }
+    requires conns { conns ≡ K.conns }
+    requires few { length more.old.items ≤ 15 }
+    requires exits { length lines.items ≡ length more.old.items }
     requires passes { length passes.items ≡ length more.old.items }
     requires unasked { All (λ net. N.place net listener ≡ unused) more.old.items }
     ensures nets { IfOk result (λ workers. map (λ x. x.lane.net) workers.items ≡ more.old.items) }
     ensures passes { IfOk result (λ workers. map (λ x. x.pass) workers.items ≡ passes.items) }
     ensures doors { IfOk result (λ workers. All (λ x. x.lane.door ≡ Unasked) workers.items) }
-    ensures on_time { IfOk result (λ workers. All (λ x. x.lane.is_early ≡ false) workers.items) }
+    ensures on_time { IfOk result (λ workers. All (λ x. is_early x.lane.heard ≡ false) workers.items) }
     ensures taken { OnOk result (more.new.items ≡ []) }
     ensures room { OnOk result (length more.old.items ≤ vec_capacity more.new) }
     ensures same { OnErr result (more.new.items ≡ more.old.items) }
@@ -92,9 +103,17 @@ fn staff<N: Passable + Drop>(
     let count = more.len();
     let mut workers = Vec::with_capacity(alloc, count)?;
     let (mut lines, mut passes) = (lines, passes);
-    for _ in 0..count {
-        let has_bell = workers.len() < bells;
-        let lane = Lane::over(alloc, more.remove(0), lines.remove(0), has_bell);
+    for worker in 0..count as u32 {
+        let left = share_of(count as u32, worker, conns);
+        let has_bell = (worker as usize) < bells;
+        let lane = Lane::over(
+            alloc,
+            more.remove(0),
+            worker,
+            lines.remove(0),
+            left,
+            has_bell,
+        );
         workers.push_reserved(Worker {
             lane,
             pass: passes.remove(0),
@@ -103,55 +122,78 @@ fn staff<N: Passable + Drop>(
     Ok(workers)
 }
 
-// Gives the nets back, and joins the workers' passes to this one.
-fn give_back<N: Passable + Drop>(
+// Gives the nets back, joins the workers' passes to this one, and joins the two ends of each line.
+fn give_back<N: Passable + Drop, K: Lines<N::Link>>(
     words: &Words,
     pass: &mut Pass,
     more: &mut Vec<N>,
-    workers: Vec<Worker<N>>,
+    workers: Vec<Worker<N, K>>,
+    entries: Vec<LineIn<Message<N::Link>>>,
 )
     requires none { more.old.items ≡ [] }
+    requires few { length workers.items ≤ 15 }
     requires room { length workers.items ≤ vec_capacity more.old }
     requires pass { IsPassOf words.now pass.old }
     requires passes { All (λ x. IsPassOf words.now x.pass) workers.items }
+    requires lines { map (λ e. e.line) entries.items ≡ K.lines }
+    requires entries { length entries.items ≡ length workers.items }
+    requires own { AreOwn (λ x. x.lane.line) (λ x. x.lane.worker) workers.items }
     ensures nets { more.new.items ≡ map (λ x. x.lane.net) workers.items }
     ensures pass { IsPassOf words.now pass.new }
     ensures own { StandsIn pass.old pass.new }
     ensures each { All (λ x. StandsIn x.pass pass.new) workers.items }
+    ensures settled { AreSettled (λ x. x.lane.line) workers.items entries.items }
 {
-    let mut workers = workers;
-    for _ in 0..workers.len() {
+    let (mut workers, mut entries) = (workers, entries);
+    for number in 0..workers.len() as u32 {
         let Worker { lane, pass: other } = workers.remove(0);
-        more.push_reserved(lane.net);
+        more.push_reserved(lane.settle(number, entries.remove(0)));
         words.join(pass, other);
     }
 }
 
 // Adds what the workers have put in, one worker after the other.
-fn list_handovers<N: Passable>(workers: &Vec<Worker<N>>, handed: &mut Trace<Handover>)
+fn list_handovers<N: Passable, K: Lines<N::Link>>(
+    workers: &Vec<Worker<N, K>>,
+    handed: &mut Trace<Handover>,
+)
     ensures { handed.new ≡ handed.old
         ++ put_below (λ x. x.lane.put) workers.now.items (length workers.now.items) }
 {
     for worker in workers {
-        handed.extend_from::<Lane<N>, PutIn>(&worker.lane);
+        handed.extend_from::<Lane<N, K>, PutIn>(&worker.lane);
     }
 }
 
+// A worker lacked memory.
+fn lacks_memory<N: Passable, K: Lines<N::Link>>(workers: &[Worker<N, K>]) -> bool
+    ensures some { IsTrue result → HasEnded LacksMemory (λ x. x.lane.outcome) workers.now }
+    ensures none { IsFalse result → NoneHasEnded LacksMemory (λ x. x.lane.outcome) workers.now }
+{
+    for worker in workers {
+        if let Err(ServeError::Memory) = worker.lane.outcome {
+            return true;
+        }
+    }
+    false
+}
+
 // What the workers came to, together.
-fn add_up<N: Passable>(workers: &[Worker<N>], conns: u32) -> Result<Served, ManyError>
-    ensures { AddsUp (λ x. x.lane.is_early) (λ x. x.lane.outcome) conns workers.now result }
+fn add_up<N: Passable, K: Lines<N::Link>>(
+    workers: &[Worker<N, K>],
+    conns: u32,
+) -> Result<Served, ManyError>
+    requires few { length workers.now ≤ 15 }
+    requires faults { All (λ x. IfOk x.lane.outcome (λ served. served.faults ≤ 16000)) workers.now }
+    requires memory { NoneHasEnded LacksMemory (λ x. x.lane.outcome) workers.now }
+    ensures { AddsUp (λ x. x.lane.outcome) conns workers.now result }
 {
     let mut faults: u32 = 0;
     for worker in workers {
         match worker.lane.outcome {
-            // a plan has at most 16,000 connections, so there is always a sum
-            Ok(served) => match faults.checked_add(served.faults) {
-                Some(sum) => faults = sum,
-                None => return Err(ManyError::Memory),
-            },
-            Err(ServeError::NetFault) if !worker.lane.is_early => return Err(ManyError::NetFault),
-            // All were accepted, so the line ended early only where a message was lost.
-            Err(ServeError::Memory) | Err(ServeError::NetFault) => return Err(ManyError::Memory),
+            Ok(served) => faults += served.faults,
+            Err(ServeError::NetFault) => return Err(ManyError::NetFault),
+            Err(ServeError::Memory) => unreachable!(),
         }
     }
     Ok(Served {
@@ -161,51 +203,33 @@ fn add_up<N: Passable>(workers: &[Worker<N>], conns: u32) -> Result<Served, Many
 }
 
 // What the proxy answers, by what its acceptor and its workers came to.
-fn conclude<N: Passable>(
+fn conclude<N: Passable, K: Lines<N::Link>>(
     accepted: Result<(), ManyError>,
-    workers: &Vec<Worker<N>>,
+    workers: &Vec<Worker<N, K>>,
     conns: u32,
 ) -> Result<Served, ManyError>
-    ensures { Concludes accepted (λ x. x.lane.is_early) (λ x. x.lane.outcome) conns workers.now.items result }
+    requires few { length workers.now.items ≤ 15 }
+    requires faults { All (λ x. IfOk x.lane.outcome (λ served. served.faults ≤ 16000)) workers.now.items }
+    ensures { Concludes accepted (λ x. x.lane.outcome) conns workers.now.items result }
 {
+    if lacks_memory(workers) {
+        return Err(ManyError::Memory);
+    }
     accepted?;
     add_up(workers, conns)
-}
-
-// Lets the workers work.
-fn work_lanes<R: Threads + Wait + Sync, N: Passable + Send + Drop, G: Gate + Sync>(
-    rt: &R,
-    words: &Words,
-    workers: &mut Vec<Worker<N>>,
-    gate: &G,
-    plan: ProxyPlan,
-)
-    requires conns { plan.conns ≤ 16000 }
-    requires few { length workers.old.items ≤ 15 }
-    requires nets { All (λ x. IsFresh (meanings N.link N.place N.faults N.poll_faults) x.lane.net) workers.old.items }
-    requires doors { All (λ x. x.lane.door ≡ Unasked) workers.old.items }
-    requires on_time { All (λ x. x.lane.is_early ≡ false) workers.old.items }
-    requires seats { HaveSeats words.now (λ x. x.pass) workers.old.items }
-    ensures worked { HaveWorked (meanings N.link N.place N.faults N.poll_faults) plan (λ x. x.lane.net)
-        (λ x. x.lane.is_early) (λ x. x.lane.outcome) workers.old.items workers.new.items }
-    ensures handed { HaveHanded plan (λ x. x.lane.put) (λ x. x.lane.outcome) workers.old.items workers.new.items }
-    ensures leaves { LeaveSeats words.now plan (λ x. x.pass) (λ x. x.lane.outcome) workers.old.items
-        workers.new.items }
-    ensures count { length workers.new.items ≡ length workers.old.items }
-{
-    work_all(rt, words, gate, plan, workers.as_mut_slice())
 }
 
 // Lets the workers work while `accept` runs. Where no thread can be made, `accept` runs first.
 fn work_beside<
     R: Threads + Wait + Sync,
     N: Passable + Send + Drop,
+    K: Lines<N::Link> + Send,
     G: Gate + Sync,
     A: FnMut() -> Result<(), ManyError>,
 >(
     rt: &R,
     words: &Words,
-    workers: &mut Vec<Worker<N>>,
+    workers: &mut Vec<Worker<N, K>>,
     gate: &G,
     plan: ProxyPlan,
     accept: &mut A,
@@ -214,43 +238,33 @@ fn work_beside<
     requires few { length workers.old.items ≤ 15 }
     requires nets { All (λ x. IsFresh (meanings N.link N.place N.faults N.poll_faults) x.lane.net) workers.old.items }
     requires doors { All (λ x. x.lane.door ≡ Unasked) workers.old.items }
-    requires on_time { All (λ x. x.lane.is_early ≡ false) workers.old.items }
+    requires on_time { All (λ x. is_early x.lane.heard ≡ false) workers.old.items }
     requires seats { HaveSeats words.now (λ x. x.pass) workers.old.items }
     requires able { A.pre accept.old }
     ensures accepted { A.step accept.old result accept.new }
     ensures worked { HaveWorked (meanings N.link N.place N.faults N.poll_faults) plan (λ x. x.lane.net)
-        (λ x. x.lane.is_early) (λ x. x.lane.outcome) workers.old.items workers.new.items }
-    ensures handed { HaveHanded plan (λ x. x.lane.put) (λ x. x.lane.outcome) workers.old.items workers.new.items }
+        (λ x. is_early x.lane.heard) (λ x. x.lane.outcome) workers.old.items workers.new.items }
+    ensures received { HaveReceived plan (λ x. x.lane.line) (λ x. x.lane.worker) (λ x. x.lane.put)
+        (λ x. x.lane.outcome) workers.old.items workers.new.items }
     ensures leaves { LeaveSeats words.now plan (λ x. x.pass) (λ x. x.lane.outcome) workers.old.items
         workers.new.items }
     ensures count { length workers.new.items ≡ length workers.old.items }
 {
-    let ((), accepted) = thread::join_mut(
-        rt,
-        &mut ||
-            requires { IsSync R.row × IsSync G.row × IsSend N.row × IsSend N.Link.row
-                × CanWork (meanings N.link N.place N.faults N.poll_faults) plan (λ x. x.lane.net) (λ x. x.lane.door)
-                (λ x. x.lane.is_early) workers.now.items
-                × HaveSeats words.now (λ x. x.pass) workers.now.items }
-            ensures { HaveWorked (meanings N.link N.place N.faults N.poll_faults) plan (λ x. x.lane.net)
-                (λ x. x.lane.is_early) (λ x. x.lane.outcome) workers.entry.now.items workers.exit.now.items
-                × HaveHanded plan (λ x. x.lane.put) (λ x. x.lane.outcome) workers.entry.now.items
-                workers.exit.now.items
-                × LeaveSeats words.entry.now plan (λ x. x.pass) (λ x. x.lane.outcome) workers.entry.now.items
-                workers.exit.now.items
-                × (length workers.exit.now.items ≡ length workers.entry.now.items) }
-        { work_lanes(rt, words, workers, gate, plan) },
-        accept,
-    );
-    accepted
+    work_all(rt, words, gate, plan, workers.as_mut_slice(), accept)
 }
 
 // Lets the workers work while the acceptor accepts.
-fn serve_lanes<R: Threads + Wait + Sync, N: Passable + Send + Drop, B: Bell + Drop, G: Gate + Sync>(
+fn serve_lanes<
+    R: Threads + Wait + Sync,
+    N: Passable + Send + Drop,
+    K: Lines<N::Link> + Send,
+    B: Bell + Drop,
+    G: Gate + Sync,
+>(
     rt: &R,
     words: &Words,
     net: &mut N,
-    workers: &mut Vec<Worker<N>>,
+    workers: &mut Vec<Worker<N, K>>,
     outgoing: &mut Outgoing<N::Link, B>,
     gate: &G,
     plan: ProxyPlan,
@@ -264,14 +278,17 @@ fn serve_lanes<R: Threads + Wait + Sync, N: Passable + Send + Drop, B: Bell + Dr
     requires few { length workers.old.items ≤ 15 }
     requires nets { All (λ x. IsFresh (meanings N.link N.place N.faults N.poll_faults) x.lane.net) workers.old.items }
     requires doors { All (λ x. x.lane.door ≡ Unasked) workers.old.items }
-    requires on_time { All (λ x. x.lane.is_early ≡ false) workers.old.items }
+    requires on_time { All (λ x. is_early x.lane.heard ≡ false) workers.old.items }
     requires seats { HaveSeats words.now (λ x. x.pass) workers.old.items }
     ensures accepted { HasAccepted (meanings N.link N.place N.faults N.poll_faults) N.accepted plan net.old net.new
         result }
+    ensures sent { HasSent (N.accepted net.old) (N.accepted net.new) outgoing.old.lines.items
+        outgoing.new.lines.items }
     ensures seat { LeavesSeat words.now 0 acceptor_deal 1 outgoing.new.pass result }
     ensures worked { HaveWorked (meanings N.link N.place N.faults N.poll_faults) plan (λ x. x.lane.net)
-        (λ x. x.lane.is_early) (λ x. x.lane.outcome) workers.old.items workers.new.items }
-    ensures handed { HaveHanded plan (λ x. x.lane.put) (λ x. x.lane.outcome) workers.old.items workers.new.items }
+        (λ x. is_early x.lane.heard) (λ x. x.lane.outcome) workers.old.items workers.new.items }
+    ensures received { HaveReceived plan (λ x. x.lane.line) (λ x. x.lane.worker) (λ x. x.lane.put)
+        (λ x. x.lane.outcome) workers.old.items workers.new.items }
     ensures leaves { LeaveSeats words.now plan (λ x. x.pass) (λ x. x.lane.outcome) workers.old.items
         workers.new.items }
     ensures count { length workers.new.items ≡ length workers.old.items }
@@ -288,6 +305,8 @@ fn serve_lanes<R: Threads + Wait + Sync, N: Passable + Send + Drop, B: Bell + Dr
                 × IsNewcomer words.now outgoing.now.pass (caller 0) }
             ensures { HasAccepted (meanings N.link N.place N.faults N.poll_faults) N.accepted
                 outgoing.entry.now.plan net.entry.now net.exit.now result
+                × HasSent (N.accepted net.entry.now) (N.accepted net.exit.now) outgoing.entry.now.lines.items
+                outgoing.exit.now.lines.items
                 × LeavesSeat words.entry.now 0 acceptor_deal 1 outgoing.exit.now.pass result }
         { accept_all(rt, words, net, outgoing) },
     )
@@ -302,6 +321,74 @@ fn answer(outcome: Result<Served, ManyError>, pass: Pass) -> Result<(Served, Pas
         Ok(served) => Ok((served, pass)),
         Err(error) => Err(error),
     }
+}
+
+// `serve_many` between the two ends of the lines that were opened: `K` says which lines these are, and how many
+// connections the plan has.
+fn serve_between<
+    K: Lines<N::Link> + Send,
+    R: Threads + Wait + Sync,
+    N: Passable + Send + Drop,
+    B: Bell + Drop,
+    G: Gate + Sync,
+>(
+    rt: &R,
+    words: &Words,
+    net: &mut N,
+    more: &mut Vec<N>,
+    exits: Vec<LineOut<Message<N::Link>>>,
+    passes: Vec<Pass>,
+    outgoing: Outgoing<N::Link, B>,
+    gate: &G,
+    handed: &mut Trace<Handover>,
+) -> Result<(Served, Pass), ManyError>
+    requires plan { IsServable outgoing.plan }
+    requires workers { (1 ≤ length more.old.items) × (length more.old.items ≤ 15) }
+    requires fresh { (c : Channel) → IsUnused (N.link net.old c) }
+    requires unasked { (c : Channel) → N.place net.old c ≡ unused }
+    requires nets { All (IsFresh (meanings N.link N.place N.faults N.poll_faults)) more.old.items }
+    requires conns { outgoing.plan.conns ≡ K.conns }
+    requires lines_in { map (λ e. e.line) outgoing.lines.items ≡ K.lines }
+    requires lines_out { map (λ e. e.line) exits.items ≡ K.lines }
+    requires entries { length outgoing.lines.items ≡ length more.old.items }
+    requires exits { length exits.items ≡ length more.old.items }
+    requires sent { All (λ e. e.carried ≡ []) outgoing.lines.items }
+    requires received { All (λ e. e.carried ≡ []) exits.items }
+    requires limits { limits_of words.now ≡ table_for (length more.old.items) }
+    requires newcomer { IsNewcomer words.now outgoing.pass (caller 0) }
+    requires seats { HaveSeats words.now (λ p. p) passes.items }
+    requires passes { length passes.items ≡ length more.old.items }
+    ensures serves { ServesMany (meanings N.link N.place N.faults N.poll_faults) outgoing.plan net.old net.new more.old.items
+        more.new.items (served_of result) }
+    ensures relays { RelayBytes (meanings N.link N.place N.faults N.poll_faults) more.new.items }
+    ensures leaves { LeavesAcceptor (meanings N.link N.place N.faults N.poll_faults) outgoing.plan net.old net.new }
+    ensures workers { LeavesWorkers (meanings N.link N.place N.faults N.poll_faults) outgoing.plan more.new.items }
+    ensures accepts { AreAccepted outgoing.plan.conns (N.accepted net.old) (N.accepted net.new) (served_of result) }
+    ensures count { length more.new.items ≡ length more.old.items }
+    ensures handed { AreHanded outgoing.plan.conns (length more.old.items) handed.old handed.new
+        (served_of result) }
+    ensures links { AccountsForLinks (meanings N.link N.place N.faults N.poll_faults) (N.accepted net.old)
+        (N.accepted net.new) more.old.items more.new.items handed.old handed.new (served_of result) }
+    ensures complete { NoneRoseOfAll (meanings N.link N.place N.faults N.poll_faults) net.old net.new more.old.items
+        more.new.items → ServesAllCleanOr (meanings N.link N.place N.faults N.poll_faults) outgoing.plan more.new.items
+        (served_of result) }
+    ensures pass { IfOk result (λ done. HoldsAll (table_for (length more.old.items)) done.1) }
+    ensures whole { IfOk result (λ done. IsWhole (table_for (length more.old.items)) (seen done.1)) }
+    ensures orderly { IfOk result (λ done. IsOrderly (table_for (length more.old.items)) (seen done.1)) }
+    ensures placed { IfOk result (λ done. ArePlaced (length more.old.items) outgoing.plan.conns (seen done.1)) }
+{
+    let plan = outgoing.plan;
+    let bells = outgoing.bells.len();
+    let Ok(workers) = staff::<N, K>(outgoing.alloc, more, exits, passes, bells, plan.conns) else {
+        return Err(ManyError::Memory);
+    };
+    let (mut workers, mut outgoing) = (workers, outgoing);
+    let accepted = serve_lanes(rt, words, net, &mut workers, &mut outgoing, gate, plan);
+    let outcome = conclude(accepted, &workers, plan.conns);
+    list_handovers(&workers, handed);
+    let mut pass = outgoing.pass;
+    give_back(words, &mut pass, more, workers, outgoing.lines);
+    answer(outcome, pass)
 }
 
 /// Relays as many connections as the plan says, and then ends. One selector accepts them, over `net`, and hands each
@@ -319,7 +406,8 @@ fn answer(outcome: Result<Served, ManyError>, pass: Pass) -> Result<(Served, Pas
 /// A connection ends when both of its directions are shut, or at the first fault of one of its links, which closes both
 /// and is counted. A worker that fails ends alone: the call returns once all connections were accepted and the other
 /// workers have ended. Where no descriptor is left for a further link, the listener fails, and with it the call; the
-/// connections that were accepted before are served first. `Memory` is also answered where the table refuses a call.
+/// connections that were accepted before are served first. `Memory` is also answered where the table refuses a call; it
+/// comes before `NetFault`, so where that is answered no thread lacked memory.
 ///
 /// The acceptor and the workers share one table. Caller 0 accepts, with selector 0; worker v is caller v + 1, with
 /// selector v + 1. Before any of them works, caller 0 opens all channels: 0 for the listener, 2k + 1 and 2k + 2 for the
@@ -357,6 +445,8 @@ pub fn serve_many<
     ensures count { length more.new.items ≡ length more.old.items }
     ensures handed { AreHanded plan.conns (length more.old.items) handed.old handed.new
         (served_of result) }
+    ensures links { AccountsForLinks (meanings N.link N.place N.faults N.poll_faults) (N.accepted net.old)
+        (N.accepted net.new) more.old.items more.new.items handed.old handed.new (served_of result) }
     ensures complete { NoneRoseOfAll (meanings N.link N.place N.faults N.poll_faults) net.old net.new more.old.items
         more.new.items → ServesAllCleanOr (meanings N.link N.place N.faults N.poll_faults) plan more.new.items
         (served_of result) }
@@ -378,9 +468,6 @@ pub fn serve_many<
     let Ok((entries, exits)) = open_lines(alloc, more.len(), plan.conns as usize + 1) else {
         return Err(ManyError::Memory);
     };
-    let Ok(workers) = staff(alloc, more, exits, passes, bells.len()) else {
-        return Err(ManyError::Memory);
-    };
     let outgoing = Outgoing {
         alloc,
         pass,
@@ -388,11 +475,5 @@ pub fn serve_many<
         bells,
         plan,
     };
-    let (mut workers, mut outgoing) = (workers, outgoing);
-    let accepted = serve_lanes(rt, &words, net, &mut workers, &mut outgoing, gate, plan);
-    let outcome = conclude(accepted, &workers, plan.conns);
-    list_handovers(&workers, handed);
-    let mut pass = outgoing.pass;
-    give_back(&words, &mut pass, more, workers);
-    answer(outcome, pass)
+    serve_between::<Brand, R, N, B, G>(rt, &words, net, more, exits, passes, outgoing, gate, handed)
 }

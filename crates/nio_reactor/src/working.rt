@@ -1,10 +1,12 @@
 //! The workers.
 ghost use Rattle.std.specs.Prelude.{◌≡◌, ◌≢◌, ◌+◌, ◌<◌, ◌≤◌, false, All, length};
+ghost use Rattle.std.specs.Fork.{AcceptsEach, ChangesEach};
+ghost use Rattle.std.specs.Thread.{IsSend, IsSync};
 ghost use Rattle.nio_reactor.specs.Dealing.{share};
-ghost use Rattle.nio_reactor.specs.Doors.{worker_at, workers_at};
-ghost use Rattle.nio_reactor.specs.Handing.{HasHanded, HaveHanded};
+ghost use Rattle.nio_reactor.specs.Doors.{worker_at};
 ghost use Rattle.nio_reactor.specs.Many.{meanings};
 ghost use Rattle.nio_reactor.specs.Placing.{caller};
+ghost use Rattle.nio_reactor.specs.Receiving.{HasReceived, HaveReceived, is_early};
 ghost use Rattle.nio_reactor.specs.Seats.{HaveSeats, IsNewcomer, LeaveSeats, LeavesSeat, channels_for, deal_of};
 ghost use Rattle.nio_reactor.specs.Working.{HasWorked, HaveWorked, IsFresh};
 ghost use Rattle.nio_reactor.specs.declared.door.Door.TheVariants.{Unasked};
@@ -12,6 +14,8 @@ ghost use Rattle.nio_reactor.specs.declared.door.Door.TheVariants.{Unasked};
 use crate::by_line::ByLine;
 use crate::door::address_of;
 use crate::lane::Worker;
+use crate::lines::Lines;
+use crate::many::ManyError;
 use crate::table::{leave_seat, share_for, take_seat};
 use nio_base::Gate;
 use nio_link::Passable;
@@ -23,9 +27,9 @@ use std::sync::Wait;
 use std::thread;
 use std::thread::Threads;
 
-// How many connections of so many are for this worker.
+/// How many connections of so many are for this worker.
 #[tactic(auto, using(crate::proofs::Dealing::share_mine, crate::proofs::Dealing::share_others))]
-fn share_of(workers: u32, worker: u32, conns: u32) -> u32
+pub(crate) fn share_of(workers: u32, worker: u32, conns: u32) -> u32
     requires { workers ≢ 0 }
     ensures exact { result ≡ share workers worker conns }
     ensures few { result ≤ conns }
@@ -40,11 +44,11 @@ fn share_of(workers: u32, worker: u32, conns: u32) -> u32
 }
 
 // Serves the connections that come on the line, so many, at the worker's seat. The plan listens at the line's address.
-fn work_share<R: Wait, H: Wait, N: Passable, G: Gate>(
+fn work_share<R: Wait, H: Wait, N: Passable, K: Lines<N::Link>, G: Gate>(
     rt: &R,
     words: &Words,
     way: &mut ByLine<'_, H, G>,
-    worker: &mut Worker<N>,
+    worker: &mut Worker<N, K>,
     plan: ProxyPlan,
     deal: Deal,
 ) -> Result<Served, ServeError>
@@ -52,11 +56,12 @@ fn work_share<R: Wait, H: Wait, N: Passable, G: Gate>(
     requires one { deal.worker < 16 }
     requires fresh { IsFresh (meanings N.link N.place N.faults N.poll_faults) worker.old.lane.net }
     requires door { worker.old.lane.door ≡ Unasked }
-    requires on_time { worker.old.lane.is_early ≡ false }
+    requires on_time { is_early worker.old.lane.heard ≡ false }
     requires newcomer { IsNewcomer words.now worker.old.pass (caller (deal.worker + 1)) }
     ensures worked { HasWorked (meanings N.link N.place N.faults N.poll_faults) plan.target plan.conns
-        worker.old.lane.net worker.new.lane.net worker.new.lane.is_early result }
-    ensures handed { HasHanded (workers_at plan.listen) (worker_at plan.listen) plan.conns worker.new.lane.put result }
+        worker.old.lane.net worker.new.lane.net (is_early worker.new.lane.heard) result }
+    ensures received { HasReceived (worker_at plan.listen) plan.conns worker.new.lane.line worker.new.lane.worker
+        worker.new.lane.put result }
     ensures leaves { LeavesSeat words.now (deal.worker + 1) deal (channels_for plan.conns) worker.new.pass result }
 {
     if plan.conns == 0 {
@@ -75,14 +80,14 @@ fn work_share<R: Wait, H: Wait, N: Passable, G: Gate>(
 }
 
 // Is this worker, of so many: serves its share of the plan.
-fn work<R: Wait, N: Passable, G: Gate>(
+fn work<R: Wait, N: Passable, K: Lines<N::Link>, G: Gate>(
     rt: &R,
     words: &Words,
     gate: &G,
     plan: ProxyPlan,
     workers: u32,
     number: u32,
-    worker: &mut Worker<N>,
+    worker: &mut Worker<N, K>,
 )
     requires workers { workers ≢ 0 }
     requires few { workers < 16 }
@@ -90,19 +95,19 @@ fn work<R: Wait, N: Passable, G: Gate>(
     requires conns { plan.conns ≤ 16000 }
     requires fresh { IsFresh (meanings N.link N.place N.faults N.poll_faults) worker.old.lane.net }
     requires door { worker.old.lane.door ≡ Unasked }
-    requires on_time { worker.old.lane.is_early ≡ false }
+    requires on_time { is_early worker.old.lane.heard ≡ false }
     requires newcomer { IsNewcomer words.now worker.old.pass (caller (number + 1)) }
     ensures worked { HasWorked (meanings N.link N.place N.faults N.poll_faults) plan.target
-        (share workers number plan.conns) worker.old.lane.net worker.new.lane.net worker.new.lane.is_early
+        (share workers number plan.conns) worker.old.lane.net worker.new.lane.net (is_early worker.new.lane.heard)
         worker.new.lane.outcome }
-    ensures handed { HasHanded workers number (share workers number plan.conns) worker.new.lane.put
-        worker.new.lane.outcome }
+    ensures received { HasReceived number (share workers number plan.conns) worker.new.lane.line
+        worker.new.lane.worker worker.new.lane.put worker.new.lane.outcome }
     ensures leaves { LeavesSeat words.now (number + 1) (deal_of workers number plan.conns)
         (channels_for (share workers number plan.conns)) worker.new.pass worker.new.lane.outcome }
 {
-    let mut way = ByLine::over(rt, gate, number, worker.lane.has_bell);
+    let mut way = ByLine::over(rt, gate, worker.lane.has_bell);
     let mine = ProxyPlan {
-        listen: address_of(workers, number),
+        listen: address_of(number),
         target: plan.target,
         conns: share_of(workers, number, plan.conns),
     };
@@ -111,45 +116,83 @@ fn work<R: Wait, N: Passable, G: Gate>(
     worker.lane.outcome = outcome;
 }
 
-/// Lets every worker serve its share of the plan, each in a thread of its own. All have returned at the end.
-pub(crate) fn work_all<R: Threads + Wait + Sync, N: Passable + Send, G: Gate + Sync>(
+// Calls `work` at each element, in so many threads, while `accept` runs. Where no thread can be made, `accept` runs
+// first.
+fn each_beside<
+    R: Threads + Sync,
+    X: Send,
+    F: Fn(usize, &mut X) + Sync,
+    A: FnMut() -> Result<(), ManyError>,
+>(rt: &R, xs: &mut [X], threads: usize, work: &F, accept: &mut A) -> Result<(), ManyError>
+    requires threads { 0 < threads }
+    requires accepts { AcceptsEach F.Fn work.now xs.old }
+    requires able { A.pre accept.old }
+    ensures changes { ChangesEach F.Fn work.now xs.old xs.new }
+    ensures accepted { A.step accept.old result accept.new }
+{
+    let ((), accepted) = thread::join_mut(
+        rt,
+        &mut ||
+            requires { IsSync R.row × IsSync F.row × IsSend X.row × (0 < threads)
+                × AcceptsEach F.Fn work.now xs.now }
+            ensures { ChangesEach F.Fn work.entry.now xs.entry.now xs.exit.now }
+        { thread::for_each_mut(rt, xs, threads, work) },
+        accept,
+    );
+    accepted
+}
+
+/// Lets every worker serve its share of the plan, each in a thread of its own, while `accept` runs. All have returned at
+/// the end. Where no thread can be made, `accept` runs first.
+pub(crate) fn work_all<
+    R: Threads + Wait + Sync,
+    N: Passable + Send,
+    K: Lines<N::Link> + Send,
+    G: Gate + Sync,
+    A: FnMut() -> Result<(), ManyError>,
+>(
     rt: &R,
     words: &Words,
     gate: &G,
     plan: ProxyPlan,
-    workers: &mut [Worker<N>],
-)
+    workers: &mut [Worker<N, K>],
+    accept: &mut A,
+) -> Result<(), ManyError>
     requires few { length workers.old ≤ 15 }
     requires conns { plan.conns ≤ 16000 }
     requires fresh { All (λ x. IsFresh (meanings N.link N.place N.faults N.poll_faults) x.lane.net) workers.old }
     requires doors { All (λ x. x.lane.door ≡ Unasked) workers.old }
-    requires on_time { All (λ x. x.lane.is_early ≡ false) workers.old }
+    requires on_time { All (λ x. is_early x.lane.heard ≡ false) workers.old }
     requires seats { HaveSeats words.now (λ x. x.pass) workers.old }
+    requires able { A.pre accept.old }
+    ensures accepted { A.step accept.old result accept.new }
     ensures worked { HaveWorked (meanings N.link N.place N.faults N.poll_faults) plan (λ x. x.lane.net)
-        (λ x. x.lane.is_early) (λ x. x.lane.outcome) workers.old workers.new }
-    ensures handed { HaveHanded plan (λ x. x.lane.put) (λ x. x.lane.outcome) workers.old workers.new }
+        (λ x. is_early x.lane.heard) (λ x. x.lane.outcome) workers.old workers.new }
+    ensures received { HaveReceived plan (λ x. x.lane.line) (λ x. x.lane.worker) (λ x. x.lane.put)
+        (λ x. x.lane.outcome) workers.old workers.new }
     ensures leaves { LeaveSeats words.now plan (λ x. x.pass) (λ x. x.lane.outcome) workers.old workers.new }
     ensures count { length workers.new ≡ length workers.old }
 {
     let threads = workers.len().max(1);
     let count = threads as u32;
-    thread::for_each_mut(
+    each_beside(
         rt,
         workers,
         threads,
         &|number, worker|
             requires { (number < 16) × (count ≢ 0) × (count < 16) × (plan.conns ≤ 16000)
                 × IsFresh (meanings N.link N.place N.faults N.poll_faults) worker.old.lane.net
-                × (worker.old.lane.door ≡ Unasked) × (worker.old.lane.is_early ≡ false)
+                × (worker.old.lane.door ≡ Unasked) × (is_early worker.old.lane.heard ≡ false)
                 × IsNewcomer words.now worker.old.pass (caller (number + 1)) }
             ensures { HasWorked (meanings N.link N.place N.faults N.poll_faults) plan.target
                 (share count number plan.conns) worker.old.lane.net worker.new.lane.net
-                worker.new.lane.is_early worker.new.lane.outcome
-                × HasHanded count number (share count number plan.conns) worker.new.lane.put
-                worker.new.lane.outcome
+                (is_early worker.new.lane.heard) worker.new.lane.outcome
+                × HasReceived number (share count number plan.conns) worker.new.lane.line worker.new.lane.worker
+                worker.new.lane.put worker.new.lane.outcome
                 × LeavesSeat words.entry.now (number + 1) (deal_of count number plan.conns)
                 (channels_for (share count number plan.conns)) worker.new.pass
                 worker.new.lane.outcome }
         { work(rt, words, gate, plan, count, number as u32, worker) },
-    );
+        accept,
+    )
 }

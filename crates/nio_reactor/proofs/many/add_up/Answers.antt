@@ -1,6 +1,8 @@
-use Rattle.std.proofs.Common.{Some, refl, sym, ap, rules, ◌∙◌, arith}
+use Rattle.std.proofs.Common.{◌≢◌, ◌≤◌, Some, Err, refl, sym, ap, rules, ◌∙◌, arith}
 use Rattle.std.proofs.lemmas.Option.{slice_get-get_or}
-use Rattle.nio_reactor.proofs.Adding.{adds_one, adds_end}
+use Rattle.nio_serve.specs.declared.serving.ServeError.TheVariants.{Memory}
+use Rattle.nio_reactor.proofs.Adding.{adds_one, adds_end, few_of}
+use Rattle.nio_reactor.proofs.Lists.{at_each}
 use Rattle.nio_reactor.proofs.many.add_up.Goals as goal
 
 pub returns-in-Err-NetFault : goal.returns-in-Err-NetFault
@@ -9,26 +11,29 @@ returns-in-Err-NetFault g c = record {
   lane = c.worker-item.result;
   is = slice_get-get_or c.args.workers.now c.loop-worker.worker-index c.worker-item.result c.loop-worker-test.true
       ∙ ap Some (sym c.worker-item.is);
-  fault = first_of (
-    search (rules, c.in-Err-NetFault.is, c.in-Err-NetFault.field-0-is),
-    grind (
-      arith,
-      c.in-Err-NetFault.is,
-      c.in-Err-NetFault.field-0-is,
-    ),
-  );
-  on_time = c.if-not-worker.true;
+  reason_is = search (rules, c.in-Err-NetFault.is, c.in-Err-NetFault.field-0-is);
 }
+
+pub unreachable-requires : goal.unreachable-requires
+unreachable-requires g c =
+    at_each (λ x. x.lane.outcome ≢ Err Memory) c.args.workers.now c.loop-worker.worker-index c.worker-item.result
+    c.requires.memory c.loop-worker-test.true c.worker-item.is
+    (search (rules, c.in-Err-Memory.is, c.in-Err-Memory.field-0-is))
 
 pub loop-worker-preserved : goal.loop-worker-preserved
 loop-worker-preserved g c =
-    adds_one _ c.args.workers.now c.loop-worker.worker-index c.loop-worker.faults c.in-Some.sum c.worker-item.result
-    c.in-Ok.served
-    c.loop-worker.invariant
-    (slice_get-get_or c.args.workers.now c.loop-worker.worker-index c.worker-item.result c.loop-worker-test.true
-    ∙ ap Some (sym c.worker-item.is)) c.in-Ok.is c.in-Some.ensures.1
+    let few : c.in-Ok.served.faults ≤ 16000
+    = few_of (λ x. x.lane.outcome) c.args.workers.now c.loop-worker.worker-index c.worker-item.result c.in-Ok.served
+    c.requires.faults c.loop-worker-test.true c.worker-item.is c.in-Ok.is in
+    record {
+      so_far = adds_one _ c.args.workers.now c.loop-worker.worker-index c.loop-worker.faults _ c.worker-item.result
+          c.in-Ok.served c.loop-worker.invariant.so_far
+          (slice_get-get_or c.args.workers.now c.loop-worker.worker-index c.worker-item.result c.loop-worker-test.true
+          ∙ ap Some (sym c.worker-item.is)) c.in-Ok.is refl;
+      few = omega (arith, c.loop-worker.invariant.few, few);
+    }
 
 pub returns : goal.returns
 returns g c =
-    adds_end _ c.args.workers.now c.loop-worker.worker-index c.args.conns _ c.loop-worker.invariant
+    adds_end _ c.args.workers.now c.loop-worker.worker-index c.args.conns _ c.loop-worker.invariant.so_far
     (omega (arith, c.loop-worker-test.false, c.loop-worker.auto.worker-index-end)) refl

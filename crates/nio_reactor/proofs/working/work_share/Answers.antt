@@ -1,19 +1,22 @@
 use Rattle.std.proofs.Common.{refl}
-use Rattle.nio_reactor.proofs.Handing.{handed, handed_none, handed_not}
+use Rattle.nio_reactor.proofs.Received.{none_put, received_all, received_none, received_not}
 use Rattle.nio_reactor.proofs.Seating.{left_idle, left_served, left_unseated}
 use Rattle.nio_reactor.proofs.Worked.{worked, worked_none, worked_not}
+use Rattle.nio_reactor.specs.Receiving.{in_hand, is_early}
 use Rattle.nio_serve.specs.declared.serving.ServeError.TheVariants.{Memory}
 use Rattle.nio_reactor.proofs.working.work_share.Goals as goal
 
 pub returns-then-plan-eq0-clause-worked : goal.returns-then-plan-eq0-clause-worked
 returns-then-plan-eq0-clause-worked g c =
-    worked_none _ c.args.plan c.args.worker.now.lane.net c.args.worker.now.lane.is_early _ c.if-plan-eq0.true refl
-    c.requires.fresh
+    worked_none _ c.args.plan c.args.worker.now.lane.net (is_early c.args.worker.now.lane.heard) _ c.if-plan-eq0.true
+    refl c.requires.fresh
 
-pub returns-then-plan-eq0-clause-handed : goal.returns-then-plan-eq0-clause-handed
-returns-then-plan-eq0-clause-handed g c =
-    handed_none c.args.plan.listen c.args.plan.conns c.args.worker.now.lane.door c.args.worker.now.lane.put
-    (record { connections = 0; faults = 0 }) c.if-plan-eq0.true c.requires.door c.args.worker.now.lane.order
+pub returns-then-plan-eq0-clause-received : goal.returns-then-plan-eq0-clause-received
+returns-then-plan-eq0-clause-received g c =
+    received_none _ c.args.plan.conns c.args.worker.now.lane.worker c.args.worker.now.lane.door
+    c.args.worker.now.lane.line c.args.worker.now.lane.put (in_hand c.args.worker.now.lane.heard) c.requires.door
+    c.args.worker.now.lane.at_door c.args.worker.now.lane.numbers (record { connections = 0; faults = 0 })
+    c.if-plan-eq0.true
 
 pub returns-then-plan-eq0-clause-leaves : goal.returns-then-plan-eq0-clause-leaves
 returns-then-plan-eq0-clause-leaves g c =
@@ -22,12 +25,13 @@ returns-then-plan-eq0-clause-leaves g c =
 
 pub returns-in_default-clause-worked : goal.returns-in_default-clause-worked
 returns-in_default-clause-worked g c =
-    worked_not _ c.args.plan c.args.worker.now.lane.net c.args.worker.now.lane.is_early c.requires.fresh
+    worked_not _ c.args.plan c.args.worker.now.lane.net (is_early c.args.worker.now.lane.heard) c.requires.fresh
 
-pub returns-in_default-clause-handed : goal.returns-in_default-clause-handed
-returns-in_default-clause-handed g c =
-    handed_not c.args.plan.listen c.args.plan.conns c.args.worker.now.lane.door c.args.worker.now.lane.put Memory
-    c.requires.door c.args.worker.now.lane.order
+pub returns-in_default-clause-received : goal.returns-in_default-clause-received
+returns-in_default-clause-received g c =
+    received_not _ c.args.plan.conns c.args.worker.now.lane.worker c.args.worker.now.lane.door
+    c.args.worker.now.lane.line c.args.worker.now.lane.put (in_hand c.args.worker.now.lane.heard) c.requires.door
+    c.args.worker.now.lane.at_door c.args.worker.now.lane.numbers Memory
 
 pub returns-in_default-clause-leaves : goal.returns-in_default-clause-leaves
 returns-in_default-clause-leaves g c = left_unseated c.args.words.now _ c.args.deal _ c.take_seat.new.pass Memory
@@ -36,16 +40,19 @@ returns-in_default-clause-leaves g c = left_unseated c.args.words.now _ c.args.d
 pub returns-clause-worked : goal.returns-clause-worked
 returns-clause-worked g c =
     worked _ c.args.plan c.args.worker.now.lane.net c.serve_on-outcome.new.net.net c.serve_on-outcome.new.net.door
-    c.serve_on-outcome.result.0 c.args.worker.now.lane.is_early c.serve_on-outcome.new.net.is_early c.requires.on_time
-    c.serve_on-outcome.ensures.serves c.serve_on-outcome.ensures.relays c.serve_on-outcome.ensures.leaves
-    c.serve_on-outcome.new.net.spare
+    c.serve_on-outcome.result.0 (is_early c.args.worker.now.lane.heard) (is_early c.serve_on-outcome.new.net.heard)
+    c.requires.on_time c.serve_on-outcome.ensures.serves c.serve_on-outcome.ensures.relays
+    c.serve_on-outcome.ensures.leaves c.serve_on-outcome.new.net.spare
 
-pub returns-clause-handed : goal.returns-clause-handed
-returns-clause-handed g c =
-    handed c.args.plan.listen c.args.plan.conns c.args.worker.now.lane.door c.serve_on-outcome.new.net.door
-    c.args.worker.now.lane.put c.serve_on-outcome.new.net.put c.serve_on-outcome.result.0 c.requires.door
-    c.args.worker.now.lane.order c.serve_on-outcome.ensures.accepts c.serve_on-outcome.ensures.leaves.listens
-    c.serve_on-outcome.new.net.order
+pub returns-clause-received : goal.returns-clause-received
+returns-clause-received g c =
+    received_all c.args.plan.listen c.args.plan.conns c.args.worker.now.lane.put c.serve_on-outcome.new.net.put
+    c.serve_on-outcome.new.net.line c.serve_on-outcome.new.net.worker c.serve_on-outcome.new.net.door
+    c.serve_on-outcome.result.0
+    (none_put 0 c.args.plan.conns c.args.worker.now.lane.worker c.args.worker.now.lane.door
+    c.args.worker.now.lane.line c.args.worker.now.lane.put (in_hand c.args.worker.now.lane.heard) c.requires.door
+    c.args.worker.now.lane.at_door c.args.worker.now.lane.numbers)
+    c.serve_on-outcome.ensures.accepts c.serve_on-outcome.ensures.leaves.listens c.serve_on-outcome.new.net.at_door
 
 pub returns-clause-leaves : goal.returns-clause-leaves
 returns-clause-leaves g c =
