@@ -7,8 +7,8 @@
  * that C ties to a descriptor of its own.
  *
  * Each function answers a status: NIO_EMPTY_HANDLE where the handle of its caller has none, and those that are named
- * with it. NIO_ILLEGAL_ARGUMENT and NIO_FULL_HANDLE come before NIO_EMPTY_HANDLE; NIO_NO_MEMORY of nio_told may. Where
- * the status isn't NIO_DONE no answer was written, but for *count at NIO_NO_ROOM.
+ * with it. NIO_ILLEGAL_ARGUMENT and NIO_FULL_HANDLE come before NIO_EMPTY_HANDLE. Where the status isn't NIO_DONE no
+ * answer was written, but for *count at NIO_NO_ROOM.
  *
  * The functions are proved: docs/C.md says what, and what not.
  *
@@ -225,8 +225,12 @@ nio_status nio_begin_now(nio_caller *caller, uint32_t selector);
 nio_status nio_asked(nio_caller *caller, uint32_t selector, nio_looked *keys, size_t room, size_t *count);
 
 /* Tells the selection in progress what a poll found, and whether its time is over. DONE: it is over, and *selected says
- * how. AGAIN: it goes on. NOT_SELECTING, NO_MEMORY (nothing was told). An index that it doesn't ask for is ignored, and
+ * how. AGAIN: it goes on. NO_MEMORY (nothing was told), NOT_SELECTING. An index that it doesn't ask for is ignored, and
  * so is an operation that it doesn't look for.
+ *
+ * The caller keeps a copy of the pairs, and its memory, until nio_free. NO_MEMORY comes only where count is more than
+ * each earlier call with this caller had that answered DONE, AGAIN or NOT_SELECTING. So one such call with as many
+ * pairs as there will ever be, before any selection, makes room for all later ones.
  *
  * As in Java's documentation it goes on where only such keys are ready as are selected already with these operations:
  * take selected keys out. With `enough` it is over as soon as something was told of what it asks for, as in JDK 17;
@@ -316,8 +320,8 @@ nio_status nio_attach(nio_caller *caller, nio_key key, uint64_t attachment, uint
 nio_status nio_attachment(nio_caller *caller, nio_key key, uint64_t *attachment);
 
 /*
- * To come: a number that was given away and comes back to the caller that gave it; a told that takes no memory, and one
- * that lists which keys it marked and removed; a wakeup that says whether one was pending.
+ * To come: a number that was given away and comes back to the caller that gave it; a told that lists which keys it
+ * marked and removed; a wakeup that says whether one was pending.
  */
 
 #ifdef __cplusplus

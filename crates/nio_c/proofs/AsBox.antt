@@ -7,18 +7,12 @@ use Rattle.std_alloc.proofs.BoxSteps.Form.{Bx}
 use Rattle.std_heap.specs.contracts.Global as Heap
 use Rattle.std_heap.specs.contracts.GlobalAllocator.TheImpl.{ghosts, dict}
 use Rattle.std_heap.proofs.Global.TheLaws as heap
-use Rattle.std_alloc.proofs.arc.Arc.TheLaws as arc
-use Rattle.nio_words.specs.contracts.words.Words as Words
-use Rattle.nio_words.proofs.words.Words.TheLaws as words
-use Rattle.nio_caller.proofs.callers.Caller.TheLaws as caller
-use Rattle.nio_c.specs.Owned.{holder_row, shared_row}
-use Rattle.nio_caller.specs.contracts.table.ArcWordsGlobalTable.TheImpl as Shared
+use Rattle.nio_c.proofs.kept.Kept.TheLaws as kept
+use Rattle.nio_c.specs.Owned.{holder_row}
 use Rattle.nio_c.specs.contracts.parts.Parts as Parts
 
 pub holder_laws : Laws holder_row
-holder_laws =
-    caller.the_row_laws shared_row Shared.ghosts
-    (arc.the_row_laws Words.the_row Heap.the_row ghosts words.the_row_laws heap.the_row_laws)
+holder_laws = kept.the_row_laws
 
 abbrev pub E : Bx
 E = record {

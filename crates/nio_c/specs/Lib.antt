@@ -1,5 +1,6 @@
 pub mod Exports
 pub mod Handles
+pub mod Holding
 pub mod Lists
 pub mod Making
 pub mod Owned

@@ -10,7 +10,7 @@ use Rattle.nio_history.specs.Conditions.{IsCaller}
 use Rattle.nio_history.specs.PassViews.{Holds}
 use Rattle.nio_words.specs.Passes.{limits_of}
 use Rattle.nio_c.specs.Exports.{Refuses}
-use Rattle.nio_c.specs.Handles.{Has, IsEmpty}
+use Rattle.nio_c.specs.Handles.{IsEmpty}
 use Rattle.nio_c.specs.Statuses.{code}
 use Rattle.nio_c.specs.declared.handle.Handle.{Handle}
 use Rattle.nio_c.specs.declared.status.Status.TheVariants as status
@@ -29,7 +29,7 @@ pub record IsFirst (l : Limits) (caller : Acting) : Type 0 where
 -- a first caller is in the handle
 pub record HasFirst (l : Limits) (handle : Handle) (answer : ℕ) : Type 0 where
   pub full : handle.full ≡ true
-  pub first : IsFirst l handle.holder
+  pub first : IsFirst l handle.holder.caller
   pub says : answer ≡ code status.Done
 
 -- Where the handle is empty and the limits fit, a table and its first caller, or there is no memory; else a refusal.
@@ -68,9 +68,14 @@ Splits n old new (Ok given) = GivesAway n old new given
 Splits n old new (Err NotHeld) = (¬ MayGive n old) × (new ≡ old)
 Splits n old new (Err NoHandle) = HasAllBack old new
 
+-- the new caller is in the handle
+pub record HasGiven (given : Acting) (handle : Handle) : Type 0 where
+  pub full : handle.full ≡ true
+  pub its : handle.holder.caller ≡ given
+
 -- the handle has the new caller, or is as it was
 abbrev pub IsGiven : Result Acting SplitError → Handle → Handle → Type 0
-IsGiven (Ok given) old new = Has new given
+IsGiven (Ok given) old new = HasGiven given new
 IsGiven (Err error) old new = new ≡ old
 
 -- ---- letting a caller go

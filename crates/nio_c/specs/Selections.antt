@@ -1,6 +1,6 @@
 -- What the exports do that are on selections and closings in progress: the clauses of the caller's own calls, in one.
-use Rattle.std.specs.Prelude.{◌≡◌, ◌↔◌, ℕ, Bool, true, false, ◌&&◌, ◌||◌, if◌then◌else◌, Option, Some, None, Result, Ok}
-use Rattle.std.specs.Prelude.{Err, List}
+use Rattle.std.specs.Prelude.{◌≡◌, ◌↔◌, ℕ, ◌<◌, ◌≤◌, Bool, true, false, ◌&&◌, ◌||◌, if◌then◌else◌, Option, Some, None}
+use Rattle.std.specs.Prelude.{Result, Ok, Err, List, length}
 use Rattle.std.specs.Prelude.{IfOk, IfSome, OnErr, option_map}
 use Rattle.nio_base.specs.declared.numbers.SelNo.{SelNo}
 use Rattle.nio_caller.specs.Callers.{Acting, closing, held, selection}
@@ -19,6 +19,7 @@ use Rattle.nio_steps.specs.SelectCalls.{Begins, Poll, leave_plan, shut_plan, tak
 use Rattle.nio_steps.specs.declared.looked.LookedKey.{LookedKey}
 use Rattle.nio_steps.specs.declared.refusal.BeginError.{BeginError}
 use Rattle.nio_steps.specs.declared.selected.Selected.{Selected}
+use Rattle.nio_c.specs.Holding.{Holding}
 use Rattle.nio_c.specs.Values.{selection_of as as_selection}
 use Rattle.nio_c.specs.declared.status.Status.{Status}
 use Rattle.nio_c.specs.declared.status.Status.TheVariants as status
@@ -65,16 +66,30 @@ abbrev pub tells_asked : Option (List LookedKey) → List (ℕ × ℕ) → Bool
 tells_asked (Some keys) pairs = tells_some keys pairs
 tells_asked None pairs = false
 
--- What a selection is told that asks for these keys: where it is enough that something was told of them, then also that
--- its time is over.
-abbrev pub with_enough : (enough : Bool) → Option (List LookedKey) → Poll → Poll
-with_enough enough asked poll =
-    record poll { elapsed = poll.elapsed || (enough && tells_asked asked poll.pairs) }
+-- whether a selection that asks for these keys is told that its time is over: the poll says so, or it is enough that
+-- something was told of the keys
+abbrev pub is_over : (enough : Bool) → Option (List LookedKey) → Poll → Bool
+is_over enough asked poll = poll.elapsed || (enough && tells_asked asked poll.pairs)
 
--- it tells its selection in progress what a poll found
-abbrev pub TellsFound : SelNo → (enough : Bool) → Poll → Acting → Acting → Result (Option Selected) NotSelecting
-    → Type 0
-TellsFound s enough poll old = TellsOn s (with_enough enough (asked_in old s) poll) old
+-- its selection in progress was told what a poll found, and there is room for as much from now on
+pub record Tells (s : SelNo) (enough : Bool) (poll : Poll) (old new : Holding)
+    (answer : Result (Option Selected) NotSelecting) : Type 0 where
+  pub call : TellsOn s (record poll { elapsed = is_over enough (asked_in old.caller s) poll }) old.caller new.caller
+      answer
+  pub room : old.room ≤ new.room
+  pub fits : length poll.pairs ≤ new.room
+
+-- nothing was told: there was no memory for more than there was room for
+pub record LacksMemory (poll : Poll) (old new : Holding) : Type 0 where
+  pub same : new.caller ≡ old.caller
+  pub room : old.room ≤ new.room
+  pub more : old.room < length poll.pairs
+
+-- it tells its selection in progress what a poll found, or lacks memory
+abbrev pub TellsFound : SelNo → (enough : Bool) → Poll → Holding → Holding
+    → Option (Result (Option Selected) NotSelecting) → Type 0
+TellsFound s enough poll old new (Some answer) = Tells s enough poll old new answer
+TellsFound s enough poll old new None = LacksMemory poll old new
 
 -- it gives the turn of its selection in progress back
 pub record LeavesOn (s : SelNo) (old new : Acting) (answer : Result (Unit {0}) NotSelecting) : Type 0 where
@@ -105,10 +120,11 @@ pub record FinishesOn (s : SelNo) (old new : Acting) (answer : Result Bool NotCl
 
 -- ---- statuses
 
-abbrev pub told_status : Result (Option Selected) NotSelecting → Status
-told_status (Ok (Some selected)) = status.Done
-told_status (Ok None) = status.Again
-told_status (Err error) = status.NotSelecting
+abbrev pub told_status : Option (Result (Option Selected) NotSelecting) → Status
+told_status (Some (Ok (Some selected))) = status.Done
+told_status (Some (Ok None)) = status.Again
+told_status (Some (Err error)) = status.NotSelecting
+told_status None = status.NoMemory
 
 abbrev pub finish_status : Result Bool NotClosing → Status
 finish_status (Ok true) = status.Done
@@ -116,7 +132,8 @@ finish_status (Ok false) = status.Busy
 finish_status (Err error) = status.NotClosing
 
 -- where the selection is over its answer is written
-abbrev pub told_selection : Result (Option Selected) NotSelecting → Selection → Selection
-told_selection (Ok (Some selected)) before = as_selection selected
-told_selection (Ok None) before = before
-told_selection (Err error) before = before
+abbrev pub told_selection : Option (Result (Option Selected) NotSelecting) → Selection → Selection
+told_selection (Some (Ok (Some selected))) before = as_selection selected
+told_selection (Some (Ok None)) before = before
+told_selection (Some (Err error)) before = before
+told_selection None before = before

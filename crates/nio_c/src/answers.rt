@@ -92,19 +92,20 @@ pub(crate) fn write_ops(answer: Result<Ops, CallError<KeyError>>, ops: &mut u8) 
 
 // Writes the answer of a selection that is over.
 pub(crate) fn write_selected(
-    answer: Result<Option<Selected>, NotSelecting>,
+    answer: Option<Result<Option<Selected>, NotSelecting>>,
     selected: &mut Selection,
 ) -> Status
     ensures status { result ≡ told_status answer }
     ensures selected { selected.new ≡ told_selection answer selected.old }
 {
     match answer {
-        Ok(Some(over)) => {
+        Some(Ok(Some(over))) => {
             *selected = Selection::of(over);
             Status::Done
         }
-        Ok(None) => Status::Again,
-        Err(error) => error.status(),
+        Some(Ok(None)) => Status::Again,
+        Some(Err(error)) => error.status(),
+        None => Status::NoMemory,
     }
 }
 

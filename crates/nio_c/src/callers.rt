@@ -1,5 +1,5 @@
 //! The exports that make a table, give numbers away, and let callers go.
-ghost use Rattle.std.specs.Prelude.{◌≡◌, IfOk, MatchBool};
+ghost use Rattle.std.specs.Prelude.{◌≡◌, IfOk, MatchBool, MatchResult};
 ghost use Rattle.nio_base.specs.Limits.{IsFit};
 ghost use Rattle.nio_select.specs.Listed.{ok_seen};
 ghost use Rattle.nio_c.specs.Exports.{Exports, Refuses};
@@ -8,7 +8,8 @@ ghost use Rattle.nio_c.specs.Statuses.{done, split_refusal, status_of};
 ghost use Rattle.nio_c.specs.Values.{as_limits, caller_no};
 ghost use Rattle.nio_c.specs.declared.status.Status.TheVariants as status;
 
-use crate::handle::{Handle, Sharer};
+use crate::handle::Handle;
+use crate::kept::{Kept, Sharer};
 use crate::status::{Refusal, Status};
 use crate::values::TableLimits;
 use nio_base::{CallerNo, Limits};
@@ -38,13 +39,13 @@ pub extern "C" fn nio_make(alloc: Global, limits: &TableLimits, first: &mut Hand
     }
 }
 
-fn first_caller(alloc: Global, limits: Limits) -> Result<Box<Sharer, Global>, AllocError>
+fn first_caller(alloc: Global, limits: Limits) -> Result<Box<Kept, Global>, AllocError>
     requires { IsFit limits }
-    ensures { IfOk result (λ caller. IsFirst limits caller.value) }
+    ensures { IfOk result (λ kept. IsFirst limits kept.value.caller) }
 {
     let (words, pass) = Words::make(alloc, limits)?;
     let table = Arc::new(alloc, words)?;
-    Ok(Box::new(alloc, Caller::first(table, pass))?)
+    Ok(Box::new(alloc, Kept::new(alloc, Caller::first(table, pass)))?)
 }
 
 /// Gives a number away, to a new caller at the same table.
@@ -64,11 +65,11 @@ pub extern "C" fn nio_split(
     if given.is_full() {
         return Status::FullHandle.code();
     }
-    let Some(mut acting) = caller.take(alloc) else {
+    let Some(mut kept) = caller.take(alloc) else {
         return Status::EmptyHandle.code();
     };
-    let split = split_off(alloc, &mut acting, CallerNo(number));
-    caller.put(acting);
+    let split = split_off(alloc, &mut kept.caller, CallerNo(number));
+    caller.put(kept);
     match split {
         Ok(boxed) => {
             given.put(boxed);
@@ -84,19 +85,29 @@ fn split_off(
     alloc: Global,
     acting: &mut Sharer,
     number: CallerNo,
-) -> Result<Box<Sharer, Global>, SplitError>
-    ensures { Splits number acting.old acting.new (ok_seen (λ given. given.value) result) }
+) -> Result<Box<Kept, Global>, SplitError>
+    ensures { Splits number acting.old acting.new (ok_seen (λ given. given.value.caller) result) }
 {
     let given = match acting.split(number) {
         Ok(given) => given,
         Err(error) => return Err(error),
     };
-    match Box::new(alloc, given) {
-        Ok(boxed) => Ok(boxed),
-        Err(failed) => {
-            acting.join(failed.value);
+    match on_heap(alloc, given) {
+        Ok(kept) => Ok(kept),
+        Err(given) => {
+            acting.join(given);
             Err(SplitError::NoHandle)
         }
+    }
+}
+
+// Puts a caller on the heap, or gives it back where there is no memory.
+fn on_heap(alloc: Global, caller: Sharer) -> Result<Box<Kept, Global>, Sharer>
+    ensures { MatchResult result (λ kept. kept.value.caller ≡ caller) (λ same. same ≡ caller) }
+{
+    match Box::new(alloc, Kept::new(alloc, caller)) {
+        Ok(kept) => Ok(kept),
+        Err(failed) => Err(failed.value.into_caller()),
     }
 }
 
@@ -106,8 +117,8 @@ pub extern "C" fn nio_free(alloc: Global, caller: &mut Handle) -> u32
     ensures { LetsGo caller.old caller.new result }
 {
     match caller.take(alloc) {
-        Some(acting) => {
-            drop(acting);
+        Some(kept) => {
+            drop(kept);
             Status::Done.code()
         }
         None => Status::EmptyHandle.code(),
@@ -120,10 +131,10 @@ pub extern "C" fn nio_number(alloc: Global, caller: &mut Handle, number: &mut u3
     ensures { Exports SaysNumber done (λ answer. number.new ≡ answer) (number.new ≡ number.old)
         caller.old caller.new result }
 {
-    let Some(acting) = caller.take(alloc) else {
+    let Some(kept) = caller.take(alloc) else {
         return Status::EmptyHandle.code();
     };
-    *number = acting.number().0;
-    caller.put(acting);
+    *number = kept.caller.number().0;
+    caller.put(kept);
     Status::Done.code()
 }

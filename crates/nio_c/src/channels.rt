@@ -46,11 +46,11 @@ fn open_of_kind(alloc: Global, caller: &mut Handle, kind: Kind, channel: &mut Ch
         (λ answer. channel.new ≡ result_unwrap_or (ok_seen channel_of answer) channel.old) (channel.new ≡ channel.old)
         caller.old caller.new result }
 {
-    let Some(mut acting) = caller.take(alloc) else {
+    let Some(mut kept) = caller.take(alloc) else {
         return Status::EmptyHandle.code();
     };
-    let answer = acting.open_channel(kind);
-    caller.put(acting);
+    let answer = kept.caller.open_channel(kind);
+    caller.put(kept);
     write_channel(answer, channel).code()
 }
 
@@ -69,11 +69,11 @@ pub extern "C" fn nio_reopen_channel(
         (λ answer. next.new ≡ result_unwrap_or (ok_seen channel_of answer) next.old) (next.new ≡ next.old)
         caller.old caller.new result }
 {
-    let Some(mut acting) = caller.take(alloc) else {
+    let Some(mut kept) = caller.take(alloc) else {
         return Status::EmptyHandle.code();
     };
-    let answer = acting.reopen_channel(channel.id());
-    caller.put(acting);
+    let answer = kept.caller.reopen_channel(channel.id());
+    caller.put(kept);
     write_channel(answer, next).code()
 }
 
@@ -84,11 +84,11 @@ pub extern "C" fn nio_find_channel(alloc: Global, caller: &mut Handle, channel: 
         (λ answer. status_found status.NoSuchChannel (is_some answer)) (λ answer. ⊤) ⊤
         caller.old caller.new result }
 {
-    let Some(mut acting) = caller.take(alloc) else {
+    let Some(mut kept) = caller.take(alloc) else {
         return Status::EmptyHandle.code();
     };
-    let answer = acting.find_channel(channel.number, channel.serial);
-    caller.put(acting);
+    let answer = kept.caller.find_channel(channel.number, channel.serial);
+    caller.put(kept);
     found(answer.is_some(), Status::NoSuchChannel).code()
 }
 
@@ -105,11 +105,11 @@ pub extern "C" fn nio_is_open(
         done (λ answer. is_open.new ≡ answer) (is_open.new ≡ is_open.old)
         caller.old caller.new result }
 {
-    let Some(mut acting) = caller.take(alloc) else {
+    let Some(mut kept) = caller.take(alloc) else {
         return Status::EmptyHandle.code();
     };
-    *is_open = acting.is_open(channel.id());
-    caller.put(acting);
+    *is_open = kept.caller.is_open(channel.id());
+    caller.put(kept);
     Status::Done.code()
 }
 
@@ -126,11 +126,11 @@ pub extern "C" fn nio_is_blocking(
         done (λ answer. blocking.new ≡ answer) (blocking.new ≡ blocking.old)
         caller.old caller.new result }
 {
-    let Some(mut acting) = caller.take(alloc) else {
+    let Some(mut kept) = caller.take(alloc) else {
         return Status::EmptyHandle.code();
     };
-    *blocking = acting.is_blocking(channel.id());
-    caller.put(acting);
+    *blocking = kept.caller.is_blocking(channel.id());
+    caller.put(kept);
     Status::Done.code()
 }
 
@@ -148,11 +148,11 @@ pub extern "C" fn nio_set_blocking(
         (status_of (call_refusal channel_refusal)) (λ answer. ⊤) ⊤
         caller.old caller.new result }
 {
-    let Some(mut acting) = caller.take(alloc) else {
+    let Some(mut kept) = caller.take(alloc) else {
         return Status::EmptyHandle.code();
     };
-    let answer = acting.try_set_blocking(channel.id(), on);
-    caller.put(acting);
+    let answer = kept.caller.try_set_blocking(channel.id(), on);
+    caller.put(kept);
     done_or(answer).code()
 }
 
@@ -174,11 +174,13 @@ pub extern "C" fn nio_register(
         (λ answer. key.new ≡ result_unwrap_or (ok_seen key_of answer) key.old) (key.new ≡ key.old)
         caller.old caller.new result }
 {
-    let Some(mut acting) = caller.take(alloc) else {
+    let Some(mut kept) = caller.take(alloc) else {
         return Status::EmptyHandle.code();
     };
-    let answer = acting.try_register(SelNo(selector), channel.id(), Ops::of(ops), attachment);
-    caller.put(acting);
+    let answer = kept
+        .caller
+        .try_register(SelNo(selector), channel.id(), Ops::of(ops), attachment);
+    caller.put(kept);
     write_key(answer, key).code()
 }
 
@@ -197,11 +199,11 @@ pub extern "C" fn nio_key_for(
         (λ answer. key.new ≡ unwrap_or (option_map key_of answer) key.old) (key.new ≡ key.old)
         caller.old caller.new result }
 {
-    let Some(mut acting) = caller.take(alloc) else {
+    let Some(mut kept) = caller.take(alloc) else {
         return Status::EmptyHandle.code();
     };
-    let answer = acting.key_for(channel.id(), SelNo(selector));
-    caller.put(acting);
+    let answer = kept.caller.key_for(channel.id(), SelNo(selector));
+    caller.put(kept);
     write_found(answer, key).code()
 }
 
@@ -218,11 +220,11 @@ pub extern "C" fn nio_is_registered(
         done (λ answer. registered.new ≡ answer) (registered.new ≡ registered.old)
         caller.old caller.new result }
 {
-    let Some(mut acting) = caller.take(alloc) else {
+    let Some(mut kept) = caller.take(alloc) else {
         return Status::EmptyHandle.code();
     };
-    *registered = acting.is_registered(channel.id());
-    caller.put(acting);
+    *registered = kept.caller.is_registered(channel.id());
+    caller.put(kept);
     Status::Done.code()
 }
 
@@ -239,10 +241,10 @@ pub extern "C" fn nio_close_channel(
         done (λ answer. closed.new ≡ answer) (closed.new ≡ closed.old)
         caller.old caller.new result }
 {
-    let Some(mut acting) = caller.take(alloc) else {
+    let Some(mut kept) = caller.take(alloc) else {
         return Status::EmptyHandle.code();
     };
-    *closed = acting.close_channel(channel.id());
-    caller.put(acting);
+    *closed = kept.caller.close_channel(channel.id());
+    caller.put(kept);
     Status::Done.code()
 }

@@ -1,16 +1,11 @@
 //! What C has of a caller.
-ghost use Rattle.nio_caller.specs.Callers.{Acting as Held};
+ghost use Rattle.nio_c.specs.Holding.{Holding as Held};
 ghost use Rattle.nio_c.specs.Owned.{handle_owns, holder_coded};
 
+use crate::kept::Kept;
 use crate::parts::Parts;
-use nio_caller::Caller;
-use nio_words::Words;
 use std::alloc::Global;
 use std::marker::Model;
-use std::sync::Arc;
-
-/// A caller that shares its table.
-pub(crate) type Sharer = Caller<Arc<Words, Global>>;
 
 /// What C has of a caller: a pointer to it, or nothing. A handle of zeroes has no caller.
 #[repr(C)]
@@ -39,17 +34,17 @@ impl Handle {
     }
 
     // Takes the caller out.
-    fn take_parts(&mut self, alloc: Global) -> Parts<Sharer, Global>
+    fn take_parts(&mut self, alloc: Global) -> Parts<Kept, Global>
         requires { self.old.full ≡ true }
         ensures { (result.value ≡ self.old.holder) × IsEmpty self.new }
     {
         self.full = false;
-        let ptr = self.at as *mut Sharer;
+        let ptr = self.at as *mut Kept;
         Parts { ptr, alloc }
     }
 
     // A handle of this caller.
-    fn of_parts(parts: Parts<Sharer, Global>) -> Handle
+    fn of_parts(parts: Parts<Kept, Global>) -> Handle
         ensures { Has result parts.value }
     {
         let Parts { ptr, alloc: _ } = parts;
@@ -58,7 +53,7 @@ impl Handle {
     }
 
     // Takes the caller out, where there is one.
-    pub(crate) fn take(&mut self, alloc: Global) -> Option<Box<Sharer, Global>>
+    pub(crate) fn take(&mut self, alloc: Global) -> Option<Box<Kept, Global>>
         ensures { MatchOption result (IsEmpty self.old × (self.new ≡ self.old))
             (λ caller. Has self.old caller.value × IsEmpty self.new) }
     {
@@ -69,7 +64,7 @@ impl Handle {
     }
 
     // Puts a caller into an empty handle.
-    pub(crate) fn put(&mut self, caller: Box<Sharer, Global>)
+    pub(crate) fn put(&mut self, caller: Box<Kept, Global>)
         requires { IsEmpty self.old }
         ensures { Has self.new caller.value }
     {

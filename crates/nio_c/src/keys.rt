@@ -28,11 +28,11 @@ pub extern "C" fn nio_find_key(alloc: Global, caller: &mut Handle, key: Key) -> 
         (λ answer. status_found status.NoSuchKey (is_some answer)) (λ answer. ⊤) ⊤
         caller.old caller.new result }
 {
-    let Some(mut acting) = caller.take(alloc) else {
+    let Some(mut kept) = caller.take(alloc) else {
         return Status::EmptyHandle.code();
     };
-    let answer = acting.find(SelNo(key.selector), key.index, key.serial);
-    caller.put(acting);
+    let answer = kept.caller.find(SelNo(key.selector), key.index, key.serial);
+    caller.put(kept);
     found(answer.is_some(), Status::NoSuchKey).code()
 }
 
@@ -48,11 +48,11 @@ pub extern "C" fn nio_is_valid(
         done (λ answer. valid.new ≡ answer) (valid.new ≡ valid.old)
         caller.old caller.new result }
 {
-    let Some(mut acting) = caller.take(alloc) else {
+    let Some(mut kept) = caller.take(alloc) else {
         return Status::EmptyHandle.code();
     };
-    *valid = acting.is_valid(key.number());
-    caller.put(acting);
+    *valid = kept.caller.is_valid(key.number());
+    caller.put(kept);
     Status::Done.code()
 }
 
@@ -63,11 +63,11 @@ pub extern "C" fn nio_cancel(alloc: Global, caller: &mut Handle, key: Key) -> u3
         (status_found status.NoSuchKey) (λ answer. ⊤) ⊤
         caller.old caller.new result }
 {
-    let Some(mut acting) = caller.take(alloc) else {
+    let Some(mut kept) = caller.take(alloc) else {
         return Status::EmptyHandle.code();
     };
-    let is_there = acting.cancel(key.number());
-    caller.put(acting);
+    let is_there = kept.caller.cancel(key.number());
+    caller.put(kept);
     found(is_there, Status::NoSuchKey).code()
 }
 
@@ -79,11 +79,11 @@ pub extern "C" fn nio_interest(alloc: Global, caller: &mut Handle, key: Key, ops
         (status_of (call_refusal key_refusal)) (λ answer. ops.new ≡ result_unwrap_or answer ops.old) (ops.new ≡ ops.old)
         caller.old caller.new result }
 {
-    let Some(mut acting) = caller.take(alloc) else {
+    let Some(mut kept) = caller.take(alloc) else {
         return Status::EmptyHandle.code();
     };
-    let answer = acting.interest(key.number());
-    caller.put(acting);
+    let answer = kept.caller.interest(key.number());
+    caller.put(kept);
     write_ops(answer, ops).code()
 }
 
@@ -95,11 +95,11 @@ pub extern "C" fn nio_set_interest(alloc: Global, caller: &mut Handle, key: Key,
         (status_of (call_refusal key_refusal)) (λ answer. ⊤) ⊤
         caller.old caller.new result }
 {
-    let Some(mut acting) = caller.take(alloc) else {
+    let Some(mut kept) = caller.take(alloc) else {
         return Status::EmptyHandle.code();
     };
-    let answer = acting.set_interest(key.number(), Ops::of(ops));
-    caller.put(acting);
+    let answer = kept.caller.set_interest(key.number(), Ops::of(ops));
+    caller.put(kept);
     done_or(answer).code()
 }
 
@@ -118,11 +118,11 @@ pub extern "C" fn nio_interest_or(
         (before.new ≡ before.old)
         caller.old caller.new result }
 {
-    let Some(mut acting) = caller.take(alloc) else {
+    let Some(mut kept) = caller.take(alloc) else {
         return Status::EmptyHandle.code();
     };
-    let answer = acting.interest_or(key.number(), Ops::of(ops));
-    caller.put(acting);
+    let answer = kept.caller.interest_or(key.number(), Ops::of(ops));
+    caller.put(kept);
     write_ops(answer, before).code()
 }
 
@@ -141,11 +141,11 @@ pub extern "C" fn nio_interest_and(
         (before.new ≡ before.old)
         caller.old caller.new result }
 {
-    let Some(mut acting) = caller.take(alloc) else {
+    let Some(mut kept) = caller.take(alloc) else {
         return Status::EmptyHandle.code();
     };
-    let answer = acting.interest_and(key.number(), Ops::of(ops));
-    caller.put(acting);
+    let answer = kept.caller.interest_and(key.number(), Ops::of(ops));
+    caller.put(kept);
     write_ops(answer, before).code()
 }
 
@@ -158,11 +158,11 @@ pub extern "C" fn nio_ready(alloc: Global, caller: &mut Handle, key: Key, ready:
         (ready.new ≡ ready.old)
         caller.old caller.new result }
 {
-    let Some(mut acting) = caller.take(alloc) else {
+    let Some(mut kept) = caller.take(alloc) else {
         return Status::EmptyHandle.code();
     };
-    let answer = acting.ready(key.number());
-    caller.put(acting);
+    let answer = kept.caller.ready(key.number());
+    caller.put(kept);
     write_ops(answer, ready).code()
 }
 
@@ -178,11 +178,11 @@ pub extern "C" fn nio_unselect(
         done (λ answer. taken.new ≡ answer) (taken.new ≡ taken.old)
         caller.old caller.new result }
 {
-    let Some(mut acting) = caller.take(alloc) else {
+    let Some(mut kept) = caller.take(alloc) else {
         return Status::EmptyHandle.code();
     };
-    *taken = acting.unselect(key.number());
-    caller.put(acting);
+    *taken = kept.caller.unselect(key.number());
+    caller.put(kept);
     Status::Done.code()
 }
 
@@ -200,11 +200,11 @@ pub extern "C" fn nio_take_selected(
         (λ answer. key.new ≡ unwrap_or (option_map key_of answer) key.old) (key.new ≡ key.old)
         caller.old caller.new result }
 {
-    let Some(mut acting) = caller.take(alloc) else {
+    let Some(mut kept) = caller.take(alloc) else {
         return Status::EmptyHandle.code();
     };
-    let answer = acting.take_selected(channel.id(), SelNo(selector));
-    caller.put(acting);
+    let answer = kept.caller.take_selected(channel.id(), SelNo(selector));
+    caller.put(kept);
     write_found(answer, key).code()
 }
 
@@ -221,11 +221,11 @@ pub extern "C" fn nio_attach(
         done (λ answer. before.new ≡ answer) (before.new ≡ before.old)
         caller.old caller.new result }
 {
-    let Some(mut acting) = caller.take(alloc) else {
+    let Some(mut kept) = caller.take(alloc) else {
         return Status::EmptyHandle.code();
     };
-    *before = acting.attach(key.number(), attachment);
-    caller.put(acting);
+    *before = kept.caller.attach(key.number(), attachment);
+    caller.put(kept);
     Status::Done.code()
 }
 
@@ -241,10 +241,10 @@ pub extern "C" fn nio_attachment(
         done (λ answer. attachment.new ≡ answer) (attachment.new ≡ attachment.old)
         caller.old caller.new result }
 {
-    let Some(mut acting) = caller.take(alloc) else {
+    let Some(mut kept) = caller.take(alloc) else {
         return Status::EmptyHandle.code();
     };
-    *attachment = acting.attachment(key.number());
-    caller.put(acting);
+    *attachment = kept.caller.attachment(key.number());
+    caller.put(kept);
     Status::Done.code()
 }

@@ -14,6 +14,7 @@ mod answers;
 mod callers;
 mod channels;
 mod handle;
+mod kept;
 mod keys;
 mod lists;
 mod parts;

@@ -1,27 +1,16 @@
 //! Lists for C.
-ghost use Rattle.std.specs.Prelude.{◌≡◌, ◌≤◌, ◌++◌, IfOk, drop, length, map};
+ghost use Rattle.std.specs.Prelude.{◌≡◌, ◌≤◌, ◌++◌, drop, length, map};
 ghost use Rattle.nio_select.specs.Listed.{ok_seen};
 ghost use Rattle.nio_c.specs.Lists.{counted, filled, list_status, listed, status_list};
 ghost use Rattle.nio_c.specs.Statuses.{call_refusal, list_refusal};
-ghost use Rattle.nio_c.specs.Values.{as_looked, as_told, key_of};
+ghost use Rattle.nio_c.specs.Values.{as_looked, key_of};
 
 use crate::status::{Refusal, Status};
-use crate::values::{Key, Looked, Pair};
-use nio_base::{KeyNo, Ops};
+use crate::values::{Key, Looked};
+use nio_base::KeyNo;
 use nio_caller::CallError;
 use nio_select::Asked;
 use nio_steps::ListError;
-use std::alloc::{AllocError, Global};
-
-// What a poller told, in memory of its own.
-pub(crate) fn told_pairs(alloc: Global, pairs: &[Pair]) -> Result<Vec<(u32, Ops)>, AllocError>
-    ensures { IfOk result (λ told. told.items ≡ map as_told pairs.now) }
-{
-    pairs
-        .iter()
-        .map(|pair| (pair.index, Ops::of(pair.ready)))
-        .collect(alloc)
-}
 
 // Writes how long the list is, and the list where there is room for it; or answers what was refused.
 pub(crate) fn write_listed(

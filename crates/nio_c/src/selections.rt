@@ -2,24 +2,22 @@
 ghost use Rattle.std.specs.Prelude.{◌≡◌, ⊤, MatchResult, is_some, length, map, unwrap_or};
 ghost use Rattle.nio_history.specs.Timeout.{mode_for};
 ghost use Rattle.nio_history.specs.declared.found.Mode.TheVariants as mode;
-ghost use Rattle.nio_select.specs.InProgress.{poll_of};
-ghost use Rattle.nio_c.specs.Exports.{Exports, ExportsOr, Refuses};
+ghost use Rattle.nio_c.specs.Exports.{Exports, ExportsHeld, Refuses};
 ghost use Rattle.nio_c.specs.Lists.{asked_count, asked_into, asked_status};
 ghost use Rattle.nio_c.specs.Selections.{Asks, BeginsOn, FinishesOn, LeavesOn, ShutsOn, TakesList, TellsFound};
 ghost use Rattle.nio_c.specs.Selections.{asked_in, finish_status, told_selection, told_status};
-ghost use Rattle.nio_c.specs.Selections.{tells_asked as asked_told, with_enough};
 ghost use Rattle.nio_c.specs.Statuses.{begin_refusal, call_refusal, done, selecting_refusal, status_found, status_of};
 ghost use Rattle.nio_c.specs.Values.{as_told, sel_no};
 ghost use Rattle.nio_c.specs.declared.status.Status.TheVariants as status;
 
 use crate::answers::{done_or, finished, write_began, write_selected};
-use crate::handle::{Handle, Sharer};
-use crate::lists::{told_pairs, write_asked};
+use crate::handle::Handle;
+use crate::kept::Sharer;
+use crate::lists::write_asked;
 use crate::status::Status;
 use crate::values::{Looked, Pair, Selection};
-use nio_base::{Ops, SelNo};
-use nio_poller::tells_some;
-use nio_select::{Mode, Told};
+use nio_base::SelNo;
+use nio_select::Mode;
 use std::alloc::Global;
 
 /// Takes the selector's list, where nobody has that. Writes whether it was taken.
@@ -34,11 +32,11 @@ pub extern "C" fn nio_take_list(
         (λ answer. taken.new ≡ answer) (taken.new ≡ taken.old)
         caller.old caller.new result }
 {
-    let Some(mut acting) = caller.take(alloc) else {
+    let Some(mut kept) = caller.take(alloc) else {
         return Status::EmptyHandle.code();
     };
-    *taken = acting.take_list(alloc, SelNo(selector));
-    caller.put(acting);
+    *taken = kept.caller.take_list(alloc, SelNo(selector));
+    caller.put(kept);
     Status::Done.code()
 }
 
@@ -73,11 +71,11 @@ fn begin_in(alloc: Global, caller: &mut Handle, sel: SelNo, mode: Mode) -> u32
         (λ answer. ⊤) ⊤
         caller.old caller.new result }
 {
-    let Some(mut acting) = caller.take(alloc) else {
+    let Some(mut kept) = caller.take(alloc) else {
         return Status::EmptyHandle.code();
     };
-    let answer = acting.begin(alloc, sel, mode);
-    caller.put(acting);
+    let answer = kept.caller.begin(alloc, sel, mode);
+    caller.put(kept);
     done_or(answer).code()
 }
 
@@ -95,11 +93,11 @@ pub extern "C" fn nio_asked(
         ((keys.new ≡ keys.old) × (count.new ≡ count.old))
         caller.old caller.new result }
 {
-    let Some(acting) = caller.take(alloc) else {
+    let Some(kept) = caller.take(alloc) else {
         return Status::EmptyHandle.code();
     };
-    let status = write_selection(&acting, SelNo(selector), keys, count);
-    caller.put(acting);
+    let status = write_selection(&kept.caller, SelNo(selector), keys, count);
+    caller.put(kept);
     status.code()
 }
 
@@ -127,43 +125,17 @@ pub extern "C" fn nio_told(
     enough: bool,
     selected: &mut Selection,
 ) -> u32
-    ensures { ExportsOr status.NoMemory
+    ensures { ExportsHeld
         (TellsFound (sel_no selector) enough (record { pairs = map as_told pairs.now; elapsed = elapsed })) told_status
         (λ answer. selected.new ≡ told_selection answer selected.old) (selected.new ≡ selected.old)
         caller.old caller.new result }
 {
-    let Ok(pairs) = told_pairs(alloc, pairs) else {
-        return Status::NoMemory.code();
-    };
-    let Some(mut acting) = caller.take(alloc) else {
+    let Some(mut kept) = caller.take(alloc) else {
         return Status::EmptyHandle.code();
     };
-    let told = enough_told(&acting, SelNo(selector), Told { pairs, elapsed }, enough);
-    let answer = acting.told(SelNo(selector), &told);
-    caller.put(acting);
+    let answer = kept.tell(SelNo(selector), pairs, elapsed, enough);
+    caller.put(kept);
     write_selected(answer, selected).code()
-}
-
-// What the caller's selection in progress is told: where that is enough, that its time is over once something was told
-// of what it asks for.
-fn enough_told(acting: &Sharer, sel: SelNo, told: Told, enough: bool) -> Told
-    ensures { poll_of result ≡ with_enough enough (asked_in acting.now sel) (poll_of told) }
-{
-    let elapsed = told.elapsed || (enough && tells_asked(acting, sel, &told.pairs));
-    Told {
-        pairs: told.pairs,
-        elapsed,
-    }
-}
-
-// Whether something was told of what the caller's selection in progress asks for.
-fn tells_asked(acting: &Sharer, sel: SelNo, pairs: &[(u32, Ops)]) -> bool
-    ensures { result ≡ asked_told (asked_in acting.now sel) pairs.now }
-{
-    match acting.selection(sel) {
-        Some(selection) => tells_some(selection.asked(), pairs),
-        None => false,
-    }
 }
 
 /// Gives the turn of the selection in progress back.
@@ -173,11 +145,11 @@ pub extern "C" fn nio_leave(alloc: Global, caller: &mut Handle, selector: u32) -
         (λ answer. ⊤) ⊤
         caller.old caller.new result }
 {
-    let Some(mut acting) = caller.take(alloc) else {
+    let Some(mut kept) = caller.take(alloc) else {
         return Status::EmptyHandle.code();
     };
-    let answer = acting.leave(SelNo(selector));
-    caller.put(acting);
+    let answer = kept.caller.leave(SelNo(selector));
+    caller.put(kept);
     done_or(answer).code()
 }
 
@@ -193,11 +165,11 @@ pub extern "C" fn nio_shut(
         (λ answer. began.new ≡ unwrap_or answer began.old) (began.new ≡ began.old)
         caller.old caller.new result }
 {
-    let Some(mut acting) = caller.take(alloc) else {
+    let Some(mut kept) = caller.take(alloc) else {
         return Status::EmptyHandle.code();
     };
-    let answer = acting.shut(SelNo(selector));
-    caller.put(acting);
+    let answer = kept.caller.shut(SelNo(selector));
+    caller.put(kept);
     write_began(answer, began).code()
 }
 
@@ -208,10 +180,10 @@ pub extern "C" fn nio_try_finish(alloc: Global, caller: &mut Handle, selector: u
         (λ answer. ⊤) ⊤
         caller.old caller.new result }
 {
-    let Some(mut acting) = caller.take(alloc) else {
+    let Some(mut kept) = caller.take(alloc) else {
         return Status::EmptyHandle.code();
     };
-    let answer = acting.try_finish(SelNo(selector));
-    caller.put(acting);
+    let answer = kept.caller.try_finish(SelNo(selector));
+    caller.put(kept);
     finished(answer).code()
 }

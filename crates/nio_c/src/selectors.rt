@@ -31,11 +31,11 @@ pub extern "C" fn nio_open_selector(alloc: Global, caller: &mut Handle, selector
         (selector.new ≡ selector.old)
         caller.old caller.new result }
 {
-    let Some(mut acting) = caller.take(alloc) else {
+    let Some(mut kept) = caller.take(alloc) else {
         return Status::EmptyHandle.code();
     };
-    let answer = acting.open_selector();
-    caller.put(acting);
+    let answer = kept.caller.open_selector();
+    caller.put(kept);
     write_selector(answer, selector).code()
 }
 
@@ -46,11 +46,11 @@ pub extern "C" fn nio_find_selector(alloc: Global, caller: &mut Handle, selector
         (λ answer. status_found status.NoSuchSelector (is_some answer)) (λ answer. ⊤) ⊤
         caller.old caller.new result }
 {
-    let Some(mut acting) = caller.take(alloc) else {
+    let Some(mut kept) = caller.take(alloc) else {
         return Status::EmptyHandle.code();
     };
-    let answer = acting.find_selector(selector);
-    caller.put(acting);
+    let answer = kept.caller.find_selector(selector);
+    caller.put(kept);
     found(answer.is_some(), Status::NoSuchSelector).code()
 }
 
@@ -69,11 +69,11 @@ pub extern "C" fn nio_keys(
         ((keys.new ≡ keys.old) × (count.new ≡ count.old))
         caller.old caller.new result }
 {
-    let Some(mut acting) = caller.take(alloc) else {
+    let Some(mut kept) = caller.take(alloc) else {
         return Status::EmptyHandle.code();
     };
-    let answer = acting.keys(alloc, SelNo(selector));
-    caller.put(acting);
+    let answer = kept.caller.keys(alloc, SelNo(selector));
+    caller.put(kept);
     write_listed(answer, keys, count).code()
 }
 
@@ -92,11 +92,11 @@ pub extern "C" fn nio_selected_keys(
         ((keys.new ≡ keys.old) × (count.new ≡ count.old))
         caller.old caller.new result }
 {
-    let Some(mut acting) = caller.take(alloc) else {
+    let Some(mut kept) = caller.take(alloc) else {
         return Status::EmptyHandle.code();
     };
-    let answer = acting.selected_keys(alloc, SelNo(selector));
-    caller.put(acting);
+    let answer = kept.caller.selected_keys(alloc, SelNo(selector));
+    caller.put(kept);
     write_listed(answer, keys, count).code()
 }
 
@@ -108,11 +108,11 @@ pub extern "C" fn nio_wakeup(alloc: Global, caller: &mut Handle, selector: u32) 
         (status_found status.NoSuchSelector) (λ answer. ⊤) ⊤
         caller.old caller.new result }
 {
-    let Some(mut acting) = caller.take(alloc) else {
+    let Some(mut kept) = caller.take(alloc) else {
         return Status::EmptyHandle.code();
     };
-    let is_there = acting.wakeup(SelNo(selector), &NoBell);
-    caller.put(acting);
+    let is_there = kept.caller.wakeup(SelNo(selector), &NoBell);
+    caller.put(kept);
     found(is_there, Status::NoSuchSelector).code()
 }
 
@@ -124,11 +124,11 @@ pub extern "C" fn nio_interrupt(alloc: Global, caller: &mut Handle, number: u32)
         (status_found status.NoSuchCaller) (λ answer. ⊤) ⊤
         caller.old caller.new result }
 {
-    let Some(mut acting) = caller.take(alloc) else {
+    let Some(mut kept) = caller.take(alloc) else {
         return Status::EmptyHandle.code();
     };
-    let is_there = acting.interrupt(CallerNo(number), &NoBell);
-    caller.put(acting);
+    let is_there = kept.caller.interrupt(CallerNo(number), &NoBell);
+    caller.put(kept);
     found(is_there, Status::NoSuchCaller).code()
 }
 
@@ -139,10 +139,10 @@ pub extern "C" fn nio_interrupted(alloc: Global, caller: &mut Handle, interrupte
         done (λ answer. interrupted.new ≡ answer) (interrupted.new ≡ interrupted.old)
         caller.old caller.new result }
 {
-    let Some(mut acting) = caller.take(alloc) else {
+    let Some(mut kept) = caller.take(alloc) else {
         return Status::EmptyHandle.code();
     };
-    *interrupted = acting.interrupted();
-    caller.put(acting);
+    *interrupted = kept.caller.interrupted();
+    caller.put(kept);
     Status::Done.code()
 }

@@ -7,7 +7,8 @@ ghost use Rattle.nio_c.specs.Statuses.{call_refusal, list_refusal};
 ghost use Rattle.nio_c.specs.Taking.{TakesAll, UnselectsEach};
 ghost use Rattle.nio_c.specs.Values.{key_of, sel_no};
 
-use crate::handle::{Handle, Sharer};
+use crate::handle::Handle;
+use crate::kept::Sharer;
 use crate::lists::write_listed;
 use crate::status::Status;
 use crate::values::Key;
@@ -32,11 +33,11 @@ pub extern "C" fn nio_take_all_selected(
         ((keys.new ≡ keys.old) × (count.new ≡ count.old))
         caller.old caller.new result }
 {
-    let Some(mut acting) = caller.take(alloc) else {
+    let Some(mut kept) = caller.take(alloc) else {
         return Status::EmptyHandle.code();
     };
-    let answer = take_all(alloc, &mut acting, SelNo(selector), keys.len());
-    caller.put(acting);
+    let answer = take_all(alloc, &mut kept.caller, SelNo(selector), keys.len());
+    caller.put(kept);
     write_listed(answer, keys, count).code()
 }
 

@@ -1,4 +1,4 @@
-use Rattle.std.proofs.Common.{◌≡◌, Option, None, sym, ap, ◌∙◌, subst}
+use Rattle.std.proofs.Common.{◌≡◌, Option, None, refl, sym, ap, ◌∙◌, subst, vec_capacity}
 use Rattle.std.specs.Prelude.{is_some, option_map, unwrap_or}
 use Rattle.nio_base.specs.declared.numbers.ChanId.{ChanId}
 use Rattle.nio_base.specs.declared.numbers.KeyNo.{KeyNo}
@@ -7,6 +7,7 @@ use Rattle.nio_caller.specs.Callers.{Acting}
 use Rattle.nio_caller.specs.NamedCalls.{Calls, OnChannel, OnSelector}
 use Rattle.nio_steps.specs.ChannelCalls.{key_for_plan}
 use Rattle.nio_steps.specs.Runs.{Completes}
+use Rattle.nio_c.specs.Holding.{Holding}
 use Rattle.nio_c.specs.Statuses.{code, status_found}
 use Rattle.nio_c.specs.Values.{channel_id, key_of, sel_no}
 use Rattle.nio_c.specs.declared.status.Status.TheVariants as status
@@ -19,13 +20,20 @@ Finds s c = Calls (λ l. OnSelector l s None (OnChannel l c None (Completes (key
 
 pub returns : goal.returns
 returns c =
+    let room = vec_capacity c.behind-kept.inside.told.pairs in
+    let before : Holding = record { caller = c.behind-kept.inside.caller; room = room } in
+    let after : Holding = record { caller = c.key_for-answer.new.self; room = room } in
     exported (Finds (sel_no c.args.selector) (channel_id c.args.channel))
     (λ answer. status_found status.NoSuchKey (is_some answer))
     (λ answer. c.write_found.new.key ≡ unwrap_or (option_map key_of answer) c.args.key.now)
-    (c.write_found.new.key ≡ c.args.key.now) c.args.caller.now c.put.new.self c.code-2.result c.deref_mut.result.now
-    c.key_for-answer.new.self c.key_for-answer.result c.in-Some.ensures.0.full
-    (c.in-Some.ensures.0.its ∙ sym c.deref_mut.ensures.value) c.put.ensures.full c.put.ensures.its
-    (subst
-    (λ (h : ChanId). Finds (sel_no c.args.selector) h c.deref_mut.result.now c.key_for-answer.new.self
-    c.key_for-answer.result) c.id.ensures c.key_for-answer.ensures.call)
+    (c.write_found.new.key ≡ c.args.key.now) c.args.caller.now c.put.new.self c.code-2.result before after
+    c.key_for-answer.result c.in-Some.ensures.0.full
+    (c.in-Some.ensures.0.its ∙ (sym c.deref_mut.ensures.value ∙ sym c.behind-kept.view_is)) c.put.ensures.full
+    c.put.ensures.its
+    (record {
+      call = subst
+          (λ (h : ChanId). Finds (sel_no c.args.selector) h c.behind-kept.inside.caller c.key_for-answer.new.self
+          c.key_for-answer.result) c.id.ensures c.key_for-answer.ensures.call;
+      room = refl;
+    })
     c.write_found.ensures.key (c.code-2.ensures ∙ ap code c.write_found.ensures.status)

@@ -1,4 +1,4 @@
-use Rattle.std.proofs.Common.{◌≡◌, ℕ, Result, Err, sym, ap, ◌∙◌, subst}
+use Rattle.std.proofs.Common.{◌≡◌, ℕ, Result, Err, refl, sym, ap, ◌∙◌, subst, vec_capacity}
 use Rattle.std.specs.Result.{result_unwrap_or}
 use Rattle.nio_base.specs.declared.numbers.ChanId.{ChanId}
 use Rattle.nio_base.specs.declared.numbers.KeyNo.{KeyNo}
@@ -11,6 +11,7 @@ use Rattle.nio_select.specs.Listed.{ok_seen}
 use Rattle.nio_steps.specs.ChannelCalls.{try_register_plan}
 use Rattle.nio_steps.specs.Runs.{Completes}
 use Rattle.nio_steps.specs.declared.refusal.ChannelError.{ChannelError}
+use Rattle.nio_c.specs.Holding.{Holding}
 use Rattle.nio_c.specs.Statuses.{call_refusal, channel_refusal, code, status_of}
 use Rattle.nio_c.specs.Values.{channel_id, key_of, sel_no}
 use Rattle.nio_c.specs.declared.values.Key.{Key}
@@ -29,15 +30,22 @@ Wrote old new answer = new ≡ result_unwrap_or (ok_seen key_of answer) old
 
 pub returns : goal.returns
 returns c =
+    let room = vec_capacity c.behind-kept.inside.told.pairs in
+    let before : Holding = record { caller = c.behind-kept.inside.caller; room = room } in
+    let after : Holding = record { caller = c.try_register-answer.new.self; room = room } in
     exported (Registers (sel_no c.args.selector) (channel_id c.args.channel) c.args.ops c.args.attachment)
     (status_of (call_refusal channel_refusal)) (Wrote c.args.key.now c.write_key.new.key)
-    (c.write_key.new.key ≡ c.args.key.now) c.args.caller.now c.put.new.self c.code-2.result c.deref_mut.result.now
-    c.try_register-answer.new.self c.try_register-answer.result c.in-Some.ensures.0.full
-    (c.in-Some.ensures.0.its ∙ sym c.deref_mut.ensures.value) c.put.ensures.full c.put.ensures.its
-    (subst
-    (λ (h : ChanId). Registers (sel_no c.args.selector) h c.args.ops c.args.attachment c.deref_mut.result.now
-    c.try_register-answer.new.self c.try_register-answer.result) c.id.ensures
-    (subst
-    (λ (o : ℕ). Registers (sel_no c.args.selector) c.id.result o c.args.attachment c.deref_mut.result.now
-    c.try_register-answer.new.self c.try_register-answer.result) c.of.ensures c.try_register-answer.ensures.call))
+    (c.write_key.new.key ≡ c.args.key.now) c.args.caller.now c.put.new.self c.code-2.result before after
+    c.try_register-answer.result c.in-Some.ensures.0.full
+    (c.in-Some.ensures.0.its ∙ (sym c.deref_mut.ensures.value ∙ sym c.behind-kept.view_is)) c.put.ensures.full
+    c.put.ensures.its
+    (record {
+      call = subst
+          (λ (h : ChanId). Registers (sel_no c.args.selector) h c.args.ops c.args.attachment before.caller after.caller
+          c.try_register-answer.result) c.id.ensures
+          (subst
+          (λ (o : ℕ). Registers (sel_no c.args.selector) c.id.result o c.args.attachment before.caller after.caller
+          c.try_register-answer.result) c.of.ensures c.try_register-answer.ensures.call);
+      room = refl;
+    })
     c.write_key.ensures.key (c.code-2.ensures ∙ ap code c.write_key.ensures.status)

@@ -1,5 +1,6 @@
-use Rattle.std.proofs.Common.{sym, ap, ◌∙◌}
+use Rattle.std.proofs.Common.{refl, sym, ap, ◌∙◌, vec_capacity}
 use Rattle.std.specs.Prelude.{⊤}
+use Rattle.nio_c.specs.Holding.{Holding}
 use Rattle.nio_c.specs.Selections.{LeavesOn}
 use Rattle.nio_c.specs.Statuses.{code, selecting_refusal, status_of}
 use Rattle.nio_c.specs.Values.{sel_no}
@@ -8,15 +9,21 @@ use Rattle.nio_c.proofs.selections.nio_leave.Goals as goal
 
 pub returns : goal.returns
 returns c =
+    let room = vec_capacity c.behind-kept.inside.told.pairs in
+    let before : Holding = record { caller = c.behind-kept.inside.caller; room = room } in
+    let after : Holding = record { caller = c.leave-answer.new.self; room = room } in
     exported (LeavesOn (sel_no c.args.selector)) (status_of selecting_refusal) (λ answer. ⊤) ⊤ c.args.caller.now
-    c.put.new.self c.code-2.result c.deref_mut.result.now c.leave-answer.new.self c.leave-answer.result
-    c.in-Some.ensures.0.full (c.in-Some.ensures.0.its ∙ sym c.deref_mut.ensures.value) c.put.ensures.full
+    c.put.new.self c.code-2.result before after c.leave-answer.result c.in-Some.ensures.0.full
+    (c.in-Some.ensures.0.its ∙ (sym c.deref_mut.ensures.value ∙ sym c.behind-kept.view_is)) c.put.ensures.full
     c.put.ensures.its
     (record {
-      none = c.leave-answer.ensures.none;
-      nothing = c.leave-answer.ensures.nothing;
-      call = c.leave-answer.ensures.call;
-      back = c.leave-answer.ensures.back;
-      over = c.leave-answer.ensures.over;
-      closings = c.leave-answer.ensures.closings;
+      call = record {
+        none = c.leave-answer.ensures.none;
+        nothing = c.leave-answer.ensures.nothing;
+        call = c.leave-answer.ensures.call;
+        back = c.leave-answer.ensures.back;
+        over = c.leave-answer.ensures.over;
+        closings = c.leave-answer.ensures.closings;
+      };
+      room = refl;
     }) tt (c.code-2.ensures ∙ ap code c.done_or.ensures)

@@ -1,0 +1,109 @@
+//! What a handle keeps.
+ghost use Rattle.std.specs.Prelude.{◌≡◌, ◌<◌, ◌≤◌, OnErr, OnOk, length, map, vec_capacity};
+ghost use Rattle.nio_select.specs.InProgress.{poll_of};
+ghost use Rattle.nio_c.specs.Selections.{TellsFound, asked_in, is_over as over_where, tells_asked as asked_told};
+ghost use Rattle.nio_c.specs.Values.{as_told};
+
+use crate::values::Pair;
+use nio_base::{Ops, SelNo};
+use nio_caller::{Caller, NotSelecting};
+use nio_poller::tells_some;
+use nio_select::Told;
+use nio_steps::Selected;
+use nio_words::Words;
+use std::alloc::{AllocError, Global};
+use std::marker::Model;
+use std::sync::Arc;
+
+/// A caller that shares its table.
+pub(crate) type Sharer = Caller<Arc<Words, Global>>;
+
+/// A caller, and what it was told last: the memory of that serves again.
+#[derive(Drop)]
+pub(crate) struct Kept {
+    pub(crate) caller: Sharer,
+    told: Told,
+}
+
+impl Model for Kept {
+    ghost use Rattle.std.specs.Prelude.{vec_capacity};
+    ghost use Rattle.nio_c.specs.Holding.{Holding};
+
+    ghost Value = { Holding };
+
+    ghost view = { λ kept. record { caller = kept.caller; room = vec_capacity kept.told.pairs } };
+}
+
+impl Kept {
+    pub(crate) fn new(alloc: Global, caller: Sharer) -> Kept
+        ensures { result.caller ≡ caller }
+    {
+        Kept {
+            caller,
+            told: Told {
+                pairs: Vec::new(alloc),
+                elapsed: false,
+            },
+        }
+    }
+
+    pub(crate) fn into_caller(self) -> Sharer
+        ensures { result ≡ self.caller }
+    {
+        let Kept {
+            caller,
+            told: _told,
+        } = self;
+        caller
+    }
+
+    // Tells the caller's selection in progress what a poll found. None: there was no memory for that, and nothing was
+    // told.
+    pub(crate) fn tell(
+        &mut self,
+        sel: SelNo,
+        found: &[Pair],
+        elapsed: bool,
+        enough: bool,
+    ) -> Option<Result<Option<Selected>, NotSelecting>>
+        ensures { TellsFound sel enough (record { pairs = map as_told found.now; elapsed = elapsed })
+            self.old self.new result }
+    {
+        take_in(&mut self.told.pairs, found).ok()?;
+        self.told.elapsed = elapsed;
+        self.told.elapsed = is_over(&self.caller, sel, &self.told, enough);
+        Some(self.caller.told(sel, &self.told))
+    }
+}
+
+// Puts what a poll found in the place of what was told last.
+fn take_in(told: &mut Vec<(u32, Ops)>, found: &[Pair]) -> Result<(), AllocError>
+    ensures items { OnOk result (told.new.items ≡ map as_told found.now) }
+    ensures fits { OnOk result (length found.now ≤ vec_capacity told.new) }
+    ensures room { vec_capacity told.old ≤ vec_capacity told.new }
+    ensures full { OnErr result (vec_capacity told.old < length found.now) }
+{
+    told.clear();
+    for pair in found {
+        told.push((pair.index, Ops::of(pair.ready)))?;
+    }
+    Ok(())
+}
+
+// Whether the selection in progress is told that its time is over: it is, or it is enough that something was told of
+// what the selection asks for.
+fn is_over(acting: &Sharer, sel: SelNo, told: &Told, enough: bool) -> bool
+    ensures { result ≡ over_where enough (asked_in acting.now sel) (poll_of told.now) }
+{
+    told.elapsed || (enough && tells_asked(acting, sel, &told.pairs))
+}
+
+// Whether something was told of what the caller's selection in progress asks for.
+fn tells_asked(acting: &Sharer, sel: SelNo, pairs: &[(u32, Ops)]) -> bool
+    ensures { result ≡ asked_told (asked_in acting.now sel) pairs.now }
+{
+    match acting.selection(sel) {
+        Some(selection) => tells_some(selection.asked(), pairs),
+        None => false,
+    }
+}
