@@ -255,7 +255,8 @@ static void begin(nio_caller *caller, char **words)
     }
 }
 
-/* Whether the caller's selection in progress asks for this key. An index alone could name a later key there. */
+/* Whether the caller's selection in progress asks for this key; it asks for none that was never made. An index alone
+ * could name a later key there. */
 static bool is_asked(nio_caller *caller, nio_key key)
 {
     static nio_looked looked[KEYS];
@@ -280,8 +281,6 @@ static void told(nio_caller *caller, char **words)
         nio_key key = key_in(words[1], *word);
         if (strcmp(*word, "elapsed") == 0)
             elapsed = true;
-        else if (!has_key(caller, words[1], *word))
-            return;
         else if (is_asked(caller, key))
             pairs[count++] = (nio_pair){.index = key.index, .ready = (nio_ops)atoi(strchr(*word, ':') + 1)};
     }

@@ -562,7 +562,7 @@ class Run {
     }
 
     private static int number(String name, char letter) {
-        if (name.charAt(0) != letter) {
+        if (name.charAt(0) != letter || name.contains(".")) {
             throw new Stop("no name of this kind");
         }
         return Integer.parseInt(name.substring(1));
@@ -576,6 +576,7 @@ class Run {
                 selectors.add(new Chosen(Selector.open()));
                 return "s" + (selectors.size() - 1);
             case "channel":
+                checkNumbers();
                 channels.add(Channel.open(words[2]));
                 return "c" + (channels.size() - 1);
             case "pipe":
@@ -625,7 +626,15 @@ class Run {
         return is ? "yes" : "no";
     }
 
+    // Ends the run where no number of a channel is left: numbers don't come back to channels here.
+    private void checkNumbers() {
+        if (channels.size() >= 1023) {
+            throw new Stop("a JVM has no numbers of channels that come back");
+        }
+    }
+
     private String openPipe(int reader, int writer) throws IOException {
+        checkNumbers();
         Pipe pipe = Pipe.open();
         PipeState state = new PipeState();
         state.source = pipe.source();

@@ -1,6 +1,6 @@
 //! The selectors of Java SE 17's `java.nio.channels`: safe types over the static library of `crates/nio_c`, whose calls
 //! are proved (`docs/C.md` says what, and what not). A table holds selectors, channels and keys; each thread has a
-//! caller of its own, and calls may overlap freely. The library carries no bytes and polls nothing: `examples/echo.rs`
+//! caller of its own, and calls may overlap freely. The library carries no bytes and polls nothing: `examples/echo`
 //! has an echo server over epoll.
 //!
 //! ```
