@@ -361,17 +361,24 @@ static nio_status tell_pairs(table *t, size_t count, bool elapsed, nio_selected 
     return nio_told(selecting(t), t->selector, t->pairs, count, elapsed || count > 0, false, selected);
 }
 
-/* Polls once, and writes the index, the events and the interest of each key that was found. Answers how many, or
- * FAILED, where Java has an exception. */
-static jint poll_once(JNIEnv *env, table *t, int timeout, jintArray found)
+/* Polls once. Answers how many events there are, or FAILED, where Java has an exception. */
+static jint wait_for(JNIEnv *env, table *t, int timeout)
 {
     int count = epoll_wait(t->poll, t->events, EVENTS, timeout);
-    if (count < 0 && errno != EINTR) {
-        raise(env, strerror(errno));
-        return FAILED;
-    }
+    if (count >= 0)
+        return count;
+    if (errno == EINTR)
+        return 0;
+    raise(env, strerror(errno));
+    return FAILED;
+}
+
+/* Writes the index, the events and the interest of each key that so many events are of, and empties the bell where one
+ * is the bell's. Answers how many keys there are. */
+static jint write_found(JNIEnv *env, table *t, jint count, jintArray found)
+{
     jint written = 0;
-    for (int i = 0; i < count; i++) {
+    for (jint i = 0; i < count; i++) {
         uint32_t number = t->events[i].data.u32;
         if (number == BELL) {
             silence(t);
@@ -389,17 +396,23 @@ static jint poll_once(JNIEnv *env, table *t, int timeout, jintArray found)
     return written;
 }
 
+/* Polls once, and writes what was found. */
+static jint poll_once(JNIEnv *env, table *t, int timeout, jintArray found)
+{
+    jint count = wait_for(env, t, timeout);
+    return count < 0 ? count : write_found(env, t, count, found);
+}
+
 static int timeout_of(jlong ms)
 {
     return ms <= 0 ? -1 : ms > INT32_MAX ? INT32_MAX : (int)ms;
 }
 
-/* The first poll of a selection, which doesn't wait, and where that found nothing the next one. */
-static jint look_for(JNIEnv *env, table *t, jlong ms, jintArray found)
+/* After the first poll, which didn't wait and found so many keys: where there is none the table is told so, and then
+ * the next poll waits. */
+static jint go_on(JNIEnv *env, table *t, jlong ms, jint count, jintArray found)
 {
     nio_selected selected;
-    arm(t);
-    jint count = poll_once(env, t, 0, found);
     if (count != 0)
         return count;
     nio_status status = tell_pairs(t, 0, false, &selected);
@@ -408,12 +421,43 @@ static jint look_for(JNIEnv *env, table *t, jlong ms, jintArray found)
     return status == NIO_DONE ? OVER : answer(status);
 }
 
-/* Begins a selection, and looks. */
+/* Polls for what the selection asks for. */
+static jint look_for(JNIEnv *env, table *t, jlong ms, jintArray found)
+{
+    arm(t);
+    return go_on(env, t, ms, poll_once(env, t, 0, found), found);
+}
+
+static jint start_at(JNIEnv *env, table *t, jlong ms, jintArray found)
+{
+    nio_status status = begin_for(t, ms);
+    return status == NIO_DONE ? look_for(env, t, ms, found) : answer(status);
+}
+
+/* A selection that doesn't wait, while epoll watches for all that it would ask for. It polls first. Where that finds
+ * nothing, not the bell either, no wakeup is pending, and there is nothing to mark or to remove: the table would answer
+ * 0 and stay as it is, so it isn't asked. Else it begins, and takes what was found, or polls again where something
+ * changed meanwhile. */
+static jint start_settled(JNIEnv *env, table *t, jintArray found)
+{
+    const jlong now = nio_provider_Table_NOW;
+    jint count = wait_for(env, t, 0);
+    if (count <= 0)
+        return count == 0 ? OVER : count;
+    nio_status status = begin_for(t, now);
+    if (status != NIO_DONE)
+        return answer(status);
+    if (t->must_arm)
+        return look_for(env, t, now, found);
+    return go_on(env, t, now, write_found(env, t, count, found), found);
+}
+
+/* Begins a selection, and looks. Java calls it where no key is cancelled that the table wasn't told of. */
 NATIVE(jint, start, jlong ms, jintArray found)
 {
     table *t = table_of(env, self);
-    nio_status status = begin_for(t, ms);
-    return status == NIO_DONE ? look_for(env, t, ms, found) : answer(status);
+    bool settled = !t->must_arm && !atomic_load(&t->changed);
+    return settled && ms == nio_provider_Table_NOW ? start_settled(env, t, found) : start_at(env, t, ms, found);
 }
 
 NATIVE(jint, begin, jlong ms)

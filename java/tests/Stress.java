@@ -10,10 +10,10 @@ import java.util.Random;
 import java.util.concurrent.atomic.AtomicLong;
 
 /**
- * One thread selects, without a time limit, beside others that register, cancel, close, write and wake it up: {@code
- * java @DIR/nio.options Stress.java [THREADS] [SECONDS] [SEED]}. Each wakeup, and each byte that is written for a key
- * that is looked for, has to make the selecting thread return; at the end no key may be left. It writes how many calls
- * there were, and ends with status 1 where a wakeup, a byte or a key was lost.
+ * One thread selects, without a time limit and each third time by {@code selectNow}, beside others that register,
+ * cancel, close, write and wake it up: {@code java @DIR/nio.options Stress.java [THREADS] [SECONDS] [SEED]}. Each wakeup,
+ * and each byte that is written for a key that is looked for, has to make the selecting thread return; at the end no key
+ * may be left. It writes how many calls there were, and ends with status 1 where a wakeup, a byte or a key was lost.
  */
 public class Stress {
     private static final long MOST_NANOS = 20_000_000_000L;
@@ -90,7 +90,11 @@ public class Stress {
     private void selectAll() throws IOException {
         ByteBuffer bytes = ByteBuffer.allocate(16);
         while (!isOver) {
-            selector.select();
+            if (rounds.get() % 3 == 0) {
+                selector.selectNow();
+            } else {
+                selector.select();
+            }
             for (SelectionKey key : selector.selectedKeys()) {
                 bytes.clear();
                 try {
