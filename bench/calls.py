@@ -45,9 +45,9 @@ SECTIONS = {
     ],
     "Asynchronous channel groups": [
         "nio::group::GroupCore", "nio::group::Job", "nio::group::Completion", "nio::group::Group", "nio::group",
-        "nio::group::Handler", "nio::group::CompletionQueue", "nio::group::QueuePass", "nio::group::Handed",
-        "nio::group::Gate", "nio_group::Operations", "nio_deadline::TimedCore", "nio_future::Desk", "nio_future",
-        "nio_future::Hand", "nio_future::OpTicket", "nio_future::Round",
+        "nio::group::Handler", "nio::group::BatchHandler", "nio::group::CompletionQueue", "nio::group::QueuePass",
+        "nio::group::Handed", "nio::group::Gate", "nio_group::Operations", "nio_deadline::TimedCore",
+        "nio_future::Desk", "nio_future", "nio_future::Hand", "nio_future::OpTicket", "nio_future::Round",
     ],
     "Nets": [
         "nio::net::CheckedNet", "nio::net::ByteBuffer", "nio::net::Net", "nio::net::MioNet", "nio::net::StreamLink",

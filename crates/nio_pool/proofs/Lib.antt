@@ -2,3 +2,4 @@ pub mod Totals
 pub mod Balance
 pub mod Whole
 pub mod BatchLemmas
+pub mod MoveLemmas

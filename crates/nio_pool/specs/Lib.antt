@@ -3,3 +3,4 @@ pub mod Queues
 pub mod Kept
 pub mod Threads
 pub mod Batches
+pub mod Moves

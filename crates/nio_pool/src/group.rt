@@ -7,6 +7,7 @@ ghost use Rattle.nio_pool.specs.Threads.{IsThreadCount};
 ghost use Rattle.nio_pool.specs.declared.group.GroupError.TheVariants.{BadThreads};
 
 use crate::ended::{Ended, OwnSlate};
+use crate::worker::BATCH;
 use crossbeam_utils::CachePadded;
 use nio_base::OpNo;
 use nio_group::{GroupCore, GroupLimits};
@@ -44,8 +45,8 @@ pub struct Group {
 }
 
 /// Who sleeps until something happens in a group. A worker sleeps only where neither the core nor the queue has a
-/// completion; who adds one then calls it. One worker at a time is called: it looks at both before it sleeps again, and
-/// calls the next one where it leaves something.
+/// completion; who adds one then calls it. One worker at a time is called, or several at once for a batch: each looks at
+/// both before it sleeps again, and calls the next one where it leaves something.
 ///
 /// No completion is left while all sleep. Who adds one, to the core or to the queue, reads these counts after that. A
 /// worker counts itself as asleep under the lock, once it has found the core empty and before it looks at the queue. So
@@ -57,7 +58,8 @@ struct Rest {
     changed: Condvar,
     // what `await_termination` sleeps on
     ended: Condvar,
-    // How many workers sleep, and whether one of them was called and hasn't come yet. Both change under the lock alone.
+    // How many workers sleep, and whether one of them was called and none of those that were has come yet. Both change
+    // under the lock alone.
     asleep: AtomicU64,
     called: AtomicBool,
     // how many wait for termination
@@ -137,6 +139,26 @@ impl Group {
         } else if called {
             self.rest.changed.notify_one();
         }
+    }
+
+    /// Lets the core go, and wakes as many of the workers that sleep as can use this many completions, which the caller
+    /// has put into the workers' queue: one for each `BATCH` of them. It wakes none where one was called and is on its
+    /// way.
+    pub fn wake_for(&self, core: MutexGuard<'_, GroupCore>, completions: u64) {
+        let asleep = self.rest.asleep.load(Ordering::SeqCst);
+        let useful = completions.div_ceil(BATCH).min(asleep);
+        let called = useful != 0 && self.rest.call();
+        drop(core);
+        if called {
+            for _ in 0..useful {
+                self.rest.changed.notify_one();
+            }
+        }
+    }
+
+    /// Whether each worker sleeps, and none was called.
+    pub fn are_all_asleep(&self) -> bool {
+        self.rest.can_call() && self.awake() == 0
     }
 
     pub(crate) fn wake_all(&self) {

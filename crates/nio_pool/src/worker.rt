@@ -7,7 +7,7 @@ ghost use Rattle.nio_pool.specs.Hands.{number};
 ghost use Rattle.nio_pool.specs.Queues.{IsPassOf, GoesOn, IsDrained};
 ghost use Rattle.nio_pool.specs.declared.worker.Found.TheVariants.{End};
 
-use crate::ended::OwnSlate;
+use crate::alone::Alone;
 use crate::group::Group;
 use crate::queue::{CompletionQueue, Handed, QueuePass};
 use nio_base::Gate;
@@ -20,6 +20,27 @@ pub trait Handler {
     /// The operation has completed. It ends when this returns. The group isn't locked, so a handler may start
     /// operations, close channels and shut the group down.
     fn completed<R: Wait>(&self, rt: &R, group: &Group, done: Handed);
+}
+
+/// How many completions a handler of batches is called with at most.
+pub const BATCH: u64 = 16;
+
+/// What is called with a completion, and with others that wait with it.
+pub trait BatchHandler {
+    /// The operation of `first` has completed. The handler may take further completions with the pass, up to `BATCH`
+    /// in all: it has to handle what it takes, and to end each operation in the core. It calls `finish` of none but
+    /// these. The group isn't locked.
+    fn completed_all<R: Wait>(
+        &self,
+        rt: &R,
+        group: &Group,
+        queue: &CompletionQueue,
+        pass: &mut QueuePass,
+        first: Handed,
+    )
+        requires { IsPassOf queue.now pass.old }
+        ensures pass { GoesOn queue.now pass.old pass.new }
+        ensures put { pass.new.hand.put ≡ pass.old.hand.put };
 }
 
 /// Completions on their way from the group to the queue.
@@ -43,7 +64,6 @@ struct Worker<'a, H, G> {
     handler: &'a H,
     gate: &'a G,
     me: u32,
-    slate: Option<OwnSlate<'a>>,
 }
 
 /// Works as the worker `me` of the group until it has terminated. It takes a completion from the queue, passes the
@@ -67,15 +87,59 @@ pub fn work<R: Wait, H: Handler, G: Gate>(
     ensures put { PutsBatches pass.old.hand.put pass.new.hand.put }
     ensures drained { IsDrained queue.now pass.new }
 {
+    let alone = Alone::over(group, handler);
+    work_in_batches(rt, group, queue, pass, &alone, gate, me);
+    alone.leave();
+}
+
+/// Works as `work` does, but with a handler of batches: it passes the test gate with the number of the first operation
+/// of a batch, before the handler takes the others, and leaves it to the handler to end the operations. So a worker that
+/// is held at the gate has one completion; the others wait in the queue for any worker.
+pub fn work_in_batches<R: Wait, H: BatchHandler, G: Gate>(
+    rt: &R,
+    group: &Group,
+    queue: &CompletionQueue,
+    pass: &mut QueuePass,
+    handler: &H,
+    gate: &G,
+    me: u32,
+)
+    requires { IsPassOf queue.now pass.old }
+    ensures pass { GoesOn queue.now pass.old pass.new }
+    ensures put { PutsBatches pass.old.hand.put pass.new.hand.put }
+    ensures drained { IsDrained queue.now pass.new }
+{
     let worker = Worker {
         group,
         queue,
         handler,
         gate,
         me,
-        slate: group.take_slate(),
     };
     drop(worker.work(rt, pass));
+}
+
+/// Handles what waits in the queue, as a worker does, but passes no test gate: for a thread that is no worker. It returns
+/// where it finds the queue empty.
+pub fn handle_waiting<R: Wait, H: BatchHandler>(
+    rt: &R,
+    group: &Group,
+    queue: &CompletionQueue,
+    pass: &mut QueuePass,
+    handler: &H,
+)
+    requires { IsPassOf queue.now pass.old }
+    ensures pass { GoesOn queue.now pass.old pass.new }
+    ensures put { pass.new.hand.put ≡ pass.old.hand.put }
+    ensures drained { IsDrained queue.now pass.new }
+{
+    for _ in rt.forever() {
+        let Some(first) = take(rt, queue, pass) else {
+            return;
+        };
+        handler.completed_all(rt, group, queue, pass, first);
+    }
+    unreachable!()
 }
 
 // As the queue's `take`, with the clause that loops keep.
@@ -117,7 +181,7 @@ fn next_batch(core: &mut GroupCore) -> Batch
     batch
 }
 
-impl<'a, H: Handler, G: Gate> Worker<'a, H, G> {
+impl<'a, H: BatchHandler, G: Gate> Worker<'a, H, G> {
     // Works until the group has terminated, and lends its core.
     fn work<R: Wait>(&self, rt: &R, pass: &mut QueuePass) -> MutexGuard<'a, GroupCore>
         requires { IsPassOf self.now.queue.now pass.old }
@@ -134,7 +198,7 @@ impl<'a, H: Handler, G: Gate> Worker<'a, H, G> {
                     Found::Fresh(batch) => self.put_all(rt, pass, batch),
                     Found::Waiting(handed) => self.serve(rt, pass, handed),
                     Found::End => {
-                        self.leave();
+                        self.group.wake_all();
                         return self.group.await_termination(rt);
                     }
                 },
@@ -143,27 +207,19 @@ impl<'a, H: Handler, G: Gate> Worker<'a, H, G> {
         unreachable!()
     }
 
-    // Calls a sleeping worker for what else waits in the queue, and then the handler, with which the operation ends.
-    // Where it was the last one, this worker finds next that the group has terminated.
-    fn serve<R: Wait>(&self, rt: &R, pass: &mut QueuePass, handed: Handed)
+    // Calls a sleeping worker for what else waits in the queue, and then the handler. Where it ends the last operation,
+    // this worker finds next that the group has terminated.
+    fn serve<R: Wait>(&self, rt: &R, pass: &mut QueuePass, first: Handed)
         requires { IsPassOf self.now.queue.now pass.old }
-        ensures { pass.new ≡ pass.old }
+        ensures pass { GoesOn self.now.queue.now pass.old pass.new }
+        ensures put { pass.new.hand.put ≡ pass.old.hand.put }
     {
         if self.group.can_call() && !self.queue.is_empty(pass) {
             self.group.call(rt);
         }
-        let op = handed.done().op();
-        self.gate.pass(rt, self.me, op.0);
-        self.handler.completed(rt, self.group, handed);
-        self.group.end(rt, self.slate.as_ref(), op);
-    }
-
-    // The group has terminated: gives the slate back, and wakes everyone.
-    fn leave(&self) {
-        if let Some(slate) = &self.slate {
-            slate.give_back();
-        }
-        self.group.wake_all();
+        self.gate.pass(rt, self.me, first.done().op().0);
+        self.handler
+            .completed_all(rt, self.group, self.queue, pass, first);
     }
 
     // Looks under the lock for something to do, and sleeps while there is nothing.
