@@ -1,5 +1,6 @@
 -- The jobs that were handed out and not yet used up, by channel and kind.
-use Rattle.std.specs.Prelude.{◌≡◌, ℕ, List, Option, Some, None, IfSome, bit_or, slice_index_or, slice_set}
+use Rattle.std.specs.Prelude.{◌≡◌, ℕ, List, Option, Some, None, IfSome, is_some, if◌then◌else◌, bit_or}
+use Rattle.std.specs.Prelude.{slice_index_or, slice_set}
 use Rattle.nio_base.specs.declared.numbers.ChanNo.{ChanNo}
 use Rattle.nio_base.specs.declared.group.OpKind.{OpKind}
 use Rattle.nio_base.specs.declared.group.OpKind.TheVariants.{Accept, Connect, Read, Write}
@@ -31,6 +32,15 @@ set_of Accept = 16
 set_of Connect = 8
 set_of Read = 1
 set_of Write = 4
+
+-- the operations for which there is a job
+abbrev pub set_where : OpKind → Option JobFields → ℕ
+set_where kind job = if is_some job then set_of kind else 0
+
+abbrev pub present_in : OfChannel → ℕ
+present_in c =
+    bit_or (bit_or (bit_or (set_where Accept c.accept) (set_where Connect c.connect)) (set_where Read c.read))
+    (set_where Write c.write)
 
 -- this job is kept, and from now on there has been one of its kind
 abbrev pub with_job : OfChannel → JobFields → OfChannel

@@ -115,14 +115,15 @@ impl<E: Exchange + Drop> ByJobs<E> {
         }
     }
 
-    // Takes in a job that was just handed out. The proxy may use it at once if it wants that now, or if there was one
-    // of the same kind and channel before: then it watches for that. Else the next round says that it came. The job of
-    // a channel whose number came back is dropped: the net has no link for it.
+    // Takes in a job that was just handed out. The proxy may use it at once if it wants that now, or if it watches for
+    // that anyway (`permits`). Else the next round says that it came. The job of a channel whose number came back is
+    // dropped: the net has no link for it.
     fn take_in(&mut self, job: Job, is_wanted: bool) {
         if job.chan().serial != 0 {
             return;
         }
-        if is_wanted || self.jobs.had_like(&job) {
+        let is_watched = self.exchange.is_prompt() && self.jobs.had_like(&job);
+        if is_wanted || is_watched {
             self.jobs.put(job);
         } else {
             // there is room for the jobs of all operations that can be in flight
@@ -177,6 +178,13 @@ fn has_emptied(got: Result<Got, Failed>, len: usize) -> bool {
     }
 }
 
+fn tells_nothing(told: &Result<Told, PollError>) -> bool {
+    match told {
+        Ok(told) => told.pairs.is_empty(),
+        Err(_) => false,
+    }
+}
+
 // How many of `len` bytes a job is for; at least one.
 fn part(job: &Job, len: usize) -> usize
     requires { 1 ≤ len }
@@ -206,10 +214,15 @@ impl<N: Net, E: Exchange + Drop> Way<JobNet<N>> for ByJobs<E> {
 
     ghost accepted = { N.accepted };
 
-    // A channel is watched for what there has been a job for: from the first one on there is one whenever the proxy
-    // wants it, or there will be as soon as what calls came to is reported.
+    // A channel is watched for what there is a job for. Where jobs come as soon as what calls came to is reported, it is
+    // watched for what there has been one for: from the first one on there is one whenever the proxy wants it, or there
+    // will be then.
     fn permits(&self, chan: ChanNo) -> Ops {
-        self.jobs.had(chan)
+        if self.exchange.is_prompt() {
+            self.jobs.had(chan)
+        } else {
+            self.jobs.present(chan)
+        }
     }
 
     fn permitted(&mut self) -> Option<ChanNo> {
@@ -234,12 +247,12 @@ impl<N: Net, E: Exchange + Drop> Way<JobNet<N>> for ByJobs<E> {
         mode: Mode,
     ) -> Result<Told, PollError> {
         // what calls came to isn't left unreported while a poll waits
-        let mode = if self.done.is_empty() {
-            mode
-        } else {
-            Mode::Now
-        };
-        net.poll(rt, alloc, asked, mode)
+        if !self.done.is_empty() || !self.exchange.may_wait() {
+            return net.poll(rt, alloc, asked, Mode::Now);
+        }
+        let told = net.poll(rt, alloc, asked, mode);
+        self.exchange.has_waited(tells_nothing(&told));
+        told
     }
 
     fn listen(&mut self, net: &mut JobNet<N>, chan: ChanNo, at: Addr) -> Result<(), Failed> {

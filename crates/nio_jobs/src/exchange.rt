@@ -32,4 +32,21 @@ pub trait Exchange {
     fn exchange_early(&mut self, done: &mut Vec<Done>, arrived: &mut Vec<Job>)
         ensures reported { (done.new.items ≡ []) ⊎ (done.new.items ≡ done.old.items) }
         ensures kept { IsPrefix arrived.old.items arrived.new.items };
+
+    /// Whether a job is handed out as soon as what calls came to is reported. Where it isn't, a channel is watched only
+    /// for what there is a job for.
+    fn is_prompt(&self) -> bool {
+        true
+    }
+
+    /// A poll is about to wait. False where it isn't to, since jobs have been handed out meanwhile. It may wait only for
+    /// a lock.
+    fn may_wait(&mut self) -> bool {
+        true
+    }
+
+    /// A poll that might wait has returned: in vain, where it told nothing.
+    fn has_waited(&mut self, in_vain: bool) {
+        let _ = in_vain;
+    }
 }

@@ -1,8 +1,8 @@
 //! Jobs by channel and kind.
-ghost use Rattle.std.specs.Prelude.{◌≡◌, IfOk, IfSome, None, replicate};
+ghost use Rattle.std.specs.Prelude.{◌≡◌, if◌then◌else◌, IfOk, IfSome, None, replicate};
 ghost use Rattle.nio_base.specs.Ops.{is_within};
 ghost use Rattle.nio_link.specs.Jobs.{of_net};
-ghost use Rattle.nio_jobs.specs.Jobs.{IsOfFirst, job_in, jobs_at, jobs_with, jobs_without, set_of, with_job, with_job_in};
+ghost use Rattle.nio_jobs.specs.Jobs.{IsOfFirst, job_in, jobs_at, jobs_with, jobs_without, present_in, set_of, with_job, with_job_in};
 
 use nio_base::{ChanNo, OpKind, Ops};
 use nio_group::Job;
@@ -29,6 +29,13 @@ fn operation(kind: OpKind) -> Ops
         OpKind::Read => Ops::READ,
         OpKind::Write => Ops::WRITE,
     }
+}
+
+// The operation of this kind where `is_there`, and else none.
+fn set_if(kind: OpKind, is_there: bool) -> Ops
+    ensures { result ≡ (if is_there then set_of kind else 0) }
+{
+    if is_there { operation(kind) } else { Ops::NONE }
 }
 
 impl OfChannel {
@@ -58,6 +65,16 @@ impl OfChannel {
             OpKind::Read => self.read = Some(job),
             OpKind::Write => self.write = Some(job),
         }
+    }
+
+    // For which operations there is a job.
+    fn present(&self) -> Ops
+        ensures { result ≡ present_in self.now }
+    {
+        set_if(OpKind::Accept, self.accept.is_some())
+            .union(set_if(OpKind::Connect, self.connect.is_some()))
+            .union(set_if(OpKind::Read, self.read.is_some()))
+            .union(set_if(OpKind::Write, self.write.is_some()))
     }
 
     fn take(&mut self, kind: OpKind) -> Option<Job>
@@ -134,6 +151,16 @@ impl Jobs {
     {
         match self.channels.get(chan.0 as usize) {
             Some(channel) => channel.had,
+            None => Ops::NONE,
+        }
+    }
+
+    /// For which operations there is a job for this channel.
+    pub(crate) fn present(&self, chan: ChanNo) -> Ops
+        ensures { result ≡ present_in (jobs_at self.now chan.0) }
+    {
+        match self.channels.get(chan.0 as usize) {
+            Some(channel) => channel.present(),
             None => Ops::NONE,
         }
     }

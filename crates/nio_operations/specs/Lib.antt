@@ -1,2 +1,2 @@
 pub mod Handling
-pub mod Taking
+pub mod Reporting

@@ -3,8 +3,10 @@
 //! operations.
 #![tactic(auto)]
 
-pub use serving::serve_group;
+pub use counts::HandledCounts;
+pub use serving::{CountedServe, serve_group, serve_group_counted};
 
+mod counts;
 mod dispatcher;
 mod handlers;
 mod serving;

@@ -9,14 +9,16 @@ ghost use Rattle.nio_pool.specs.Queues.{IsPassOf};
 ghost use Rattle.nio_relay.specs.Plan.{IsServable};
 ghost use Rattle.nio_serve.specs.Serving.{AreNumbered, LeavesNothing, NoneRose, RelaysBytes, Serves, ServesAllOr};
 
-use crate::dispatcher::{Dispatcher, Outbox};
-use crate::handlers::{SharedStreams, WorkerHandler};
+use crate::counts::HandledCounts;
+use crate::dispatcher::Dispatcher;
+use crate::handlers::ProxyHandler;
+use crate::streams::SharedStreams;
 use nio_base::Gate;
 use nio_group::GroupLimits;
-use nio_jobs::{ByJobs, Streams};
+use nio_jobs::ByJobs;
 use nio_link::{JobNet, Net};
 use nio_poller::Bell;
-use nio_pool::{CompletionQueue, Group, QueuePass, work};
+use nio_pool::{CompletionQueue, Group, QueuePass, work_in_batches};
 use nio_relay::{ProxyPlan, Served};
 use nio_serve::{ServeError, serve};
 use std::alloc::{AllocError, Global};
@@ -33,7 +35,7 @@ fn channels_of(plan: ProxyPlan) -> u32
 }
 
 // How many operations of this plan's group are in flight at most: an accept, a read and a write for each stream, and
-// one whose handler runs, for each worker and for the dispatcher.
+// some more, since a handler starts what is due before it ends its own operation.
 fn flight_of(plan: ProxyPlan) -> u32
     requires { IsServable plan }
     ensures { result ≡ 4 * plan.conns + 66 }
@@ -72,12 +74,12 @@ impl SharedGroup {
         let Ok(group) = Group::make(alloc, i64::from(workers), limits) else {
             return Err(AllocError);
         };
-        let streams = Streams::make(alloc, channels, flight)?;
+        let streams = SharedStreams::make(alloc, channels, flight)?;
         let (queue, passes) = CompletionQueue::make(alloc, workers + 1, flight)?;
         let shared = SharedGroup {
             group,
             queue,
-            streams: SharedStreams::over(streams),
+            streams,
         };
         let mut passes = passes;
         let own = passes.pop();
@@ -110,8 +112,12 @@ fn work_all<R: Threads + Wait + Sync, B: Bell + Sync, G: Gate + Sync>(
             requires { (me < 64) × IsPassOf queue.now pass.old }
         {
             streams.join_in();
-            let handler = WorkerHandler { streams, bell };
-            work(rt, group, queue, pass, &handler, gate, me as u32);
+            let handler = ProxyHandler {
+                streams,
+                bell,
+                count: streams.counters.of_worker(me),
+            };
+            work_in_batches(rt, group, queue, pass, &handler, gate, me as u32);
         },
     );
 }
@@ -142,8 +148,8 @@ fn open_way<'a, R: Wait>(
     requires plan { IsServable plan }
     requires pass { IsPassOf shared.now.queue own }
     ensures new { IfOk result (λ way. IsNew (exchange_of way) (2 * plan.conns + 1) (4 * plan.conns + 66) way) }
-    ensures queue { IfOk result (λ way. (exchange_of way).outbox.queue.now ≡ shared.now.queue) }
-    ensures pass { IfOk result (λ way. (exchange_of way).outbox.pass ≡ own) }
+    ensures queue { IfOk result (λ way. (exchange_of way).queue.now ≡ shared.now.queue) }
+    ensures pass { IfOk result (λ way. (exchange_of way).pass ≡ own) }
 {
     let SharedGroup {
         group,
@@ -151,12 +157,7 @@ fn open_way<'a, R: Wait>(
         streams,
     } = shared;
     streams.listen(rt, group);
-    let dispatcher = Dispatcher {
-        rt,
-        group,
-        streams,
-        outbox: Outbox::over(queue, own),
-    };
+    let dispatcher = Dispatcher::over(rt, group, queue, own, streams);
     ByJobs::make(alloc, dispatcher, channels_of(plan), flight_of(plan))
 }
 
@@ -238,14 +239,24 @@ fn can_make_threads<R: Threads + Wait>(rt: &R) -> bool {
     }
 }
 
+/// How a proxy ended, and how many completions each has handled.
+#[derive(Clone, Copy)]
+pub struct CountedServe {
+    pub served: Result<Served, ServeError>,
+    pub counts: HandledCounts,
+}
+
 /// Relays as many connections as the plan says, and then ends, by the operations of an asynchronous channel group. The
-/// calling thread is the dispatcher: it polls the net, and makes each call on it for a job of the group's. It handles
-/// the completion of an accept, a read or a write itself, as soon as its call has been made: so what it starts next can
-/// be done before the next poll. The completions of connects are for this many workers, each in a thread of its own: a
-/// worker passes the test gate, with its number and the operation's, and starts the first reads of the connection. It
-/// rings the bell, which has to be that of the net, where the dispatcher may wait for what it started. So a
-/// connect's handler that takes long holds up no other connection while a worker is free (tested only). Until a worker
-/// has begun, as where no thread can be made, the dispatcher handles all completions, and passes no gate.
+/// calling thread is the dispatcher: it polls the net, makes each call on it for a job of the group's, and reports what
+/// the calls of a round came to. The handlers run on this many workers, each in a thread of its own. A worker takes a
+/// completion from the queue, passes the test gate, with its number and the operation's, and then handles it with up to
+/// 15 others that wait: it starts what is due next. It rings the bell, which has to be that of the net, where the
+/// dispatcher waits for what it started. So a handler that is held at the gate holds up no other connection while a
+/// worker is free (tested only).
+///
+/// The dispatcher handles completions itself, and passes no gate, until a worker has begun, as where no thread can be
+/// made; and a single one that comes while all workers sleep and it has no job to go on with (`serve_group_counted` says
+/// how often).
 ///
 /// A connection ends when both of its directions are shut, or at the first fault of one of its links, which closes both
 /// and is counted. At every end the links, the listener and the group are closed, and the workers have ended. `Memory`
@@ -271,8 +282,36 @@ pub fn serve_group<R: Threads + Wait + Sync, N: Net, B: Bell + Sync, G: Gate + S
     ensures complete { NoneRose (N.faults net.old) (N.faults net.new) (N.poll_faults net.old) (N.poll_faults net.new)
         → ServesAllOr plan.conns (N.link net.new) result }
 {
+    serve_group_counted(rt, alloc, net, bell, gate, plan, workers).served
+}
+
+/// As `serve_group`, with the counts of what the dispatcher and the workers have handled.
+pub fn serve_group_counted<R: Threads + Wait + Sync, N: Net, B: Bell + Sync, G: Gate + Sync>(
+    rt: &R,
+    alloc: Global,
+    net: &mut JobNet<N>,
+    bell: &B,
+    gate: &G,
+    plan: ProxyPlan,
+    workers: u32,
+) -> CountedServe
+    requires plan { IsServable plan }
+    requires workers { (1 ≤ workers) × (workers ≤ 64) }
+    requires fresh { (c : ChanNo) → IsUnused (N.link net.old c) }
+    requires unasked { (c : ChanNo) → N.place net.old c ≡ unused }
+    ensures serves { Serves plan (N.link net.new) (N.place net.new) (N.faults net.old) (N.faults net.new)
+        (N.poll_faults net.old) (N.poll_faults net.new) result.served }
+    ensures relays { RelaysBytes (N.link net.new) }
+    ensures leaves { LeavesNothing plan (N.link net.new) (N.place net.new) }
+    ensures accepts { AreNumbered plan.conns (N.accepted net.old) (N.accepted net.new) result.served }
+    ensures complete { NoneRose (N.faults net.old) (N.faults net.new) (N.poll_faults net.old) (N.poll_faults net.new)
+        → ServesAllOr plan.conns (N.link net.new) result.served }
+{
     let Ok((shared, own, passes)) = SharedGroup::make(alloc, plan, workers) else {
-        return no_memory(net, plan);
+        return CountedServe {
+            served: no_memory(net, plan),
+            counts: HandledCounts::NONE,
+        };
     };
     let mut own = own;
     let mut passes = passes;
@@ -286,5 +325,8 @@ pub fn serve_group<R: Threads + Wait + Sync, N: Net, B: Bell + Sync, G: Gate + S
         { work_all(rt, &shared, passes.as_mut_slice(), bell, gate) },
         &mut || served = dispatch(rt, alloc, net, &shared, &mut own, has_threads, plan),
     );
-    served
+    CountedServe {
+        served,
+        counts: shared.streams.counters.counts(),
+    }
 }

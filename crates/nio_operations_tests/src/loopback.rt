@@ -7,14 +7,14 @@ use nio_operations::serve_group;
 use nio_relay::{ProxyPlan, Served};
 use nio_serve::ServeError;
 use std::alloc::{AllocError, Global};
-use std::io;
 use std::io::{Read, Write};
 use std::net::{Net, Shutdown, TcpListener, TcpStream};
 use std::sync::Wait;
-use std::sync::atomic::{AtomicBool, Ordering};
+use std::sync::atomic::{AtomicBool, AtomicU64, Ordering};
 use std::test::Fail;
-use std::thread::{Threads, join, sleep, yield_now};
+use std::thread::{Threads, for_each_mut, join, sleep, yield_now};
 use std::time::{Clock, Duration};
+use std::{array, io};
 
 const COUNT: usize = 50_000;
 
@@ -35,7 +35,7 @@ fn bytes(alloc: Global, period: usize) -> Result<Vec<u8>, AllocError> {
     Ok(bytes)
 }
 
-/// Relays one or two connections, by four workers.
+/// Relays up to four connections, by four workers.
 fn relay<R: Threads + Wait + Sync + Net + Clock + Copy, G: Gate + Sync>(
     rt: &R,
     alloc: Global,
@@ -53,7 +53,7 @@ fn relay<R: Threads + Wait + Sync + Net + Clock + Copy, G: Gate + Sync>(
             ip: LOCAL,
             port: target,
         },
-        conns: conns.clamp(1, 2),
+        conns: conns.clamp(1, CLIENTS as u32),
     };
     let (net, bell) = MioNet::make(*rt, alloc)?;
     let mut jobs = JobNet::over(net);
@@ -120,87 +120,130 @@ fn relays_over_loopback(rt: HostRuntime) -> Result<(), Fail> {
     Ok(())
 }
 
-/// How often a thread looks whether another has come before it gives up.
-const TURNS: u32 = 100_000_000;
+/// How many clients make round trips of one byte beside each other, how many each makes, and after how many of all no
+/// worker is held any more.
+const CLIENTS: usize = 4;
 
-fn awaits(flag: &AtomicBool) -> bool {
-    for _ in 0..TURNS {
-        if flag.load(Ordering::SeqCst) {
-            return true;
-        }
-        yield_now();
-    }
-    false
-}
+const ROUNDS: u64 = 200;
 
-/// Holds the first completion that a worker handles until it is let go.
+const LAST_HELD: u64 = 400;
+
+/// How often a worker looks whether others have gone on before it gives up.
+const TURNS: u32 = 20_000_000;
+
+/// Holds one worker at a time until the clients have made 20 further round trips. The client whose completion is held
+/// makes none of them.
 #[derive(Drop)]
 struct Holding {
+    made: AtomicU64,
     is_held: AtomicBool,
-    is_let_go: AtomicBool,
+    holds: AtomicU64,
     given_up: AtomicBool,
+}
+
+impl Holding {
+    fn new() -> Holding {
+        Holding {
+            made: AtomicU64::new(0),
+            is_held: AtomicBool::new(false),
+            holds: AtomicU64::new(0),
+            given_up: AtomicBool::new(false),
+        }
+    }
+
+    /// Whether so many round trips were made, at last.
+    fn come_to(&self, count: u64) -> bool {
+        for _ in 0..TURNS {
+            if count <= self.made.load(Ordering::SeqCst) {
+                return true;
+            }
+            yield_now();
+        }
+        false
+    }
 }
 
 impl Gate for Holding {
     fn pass<R: Wait>(&self, _rt: &R, _who: u32, _what: u64) {
-        if !self.is_held.swap(true, Ordering::SeqCst) && !awaits(&self.is_let_go) {
+        let made = self.made.load(Ordering::SeqCst);
+        // before the first round trip only accepts and connects have completed
+        if made == 0 || LAST_HELD < made || self.is_held.swap(true, Ordering::SeqCst) {
+            return;
+        }
+        self.holds.fetch_add(1, Ordering::SeqCst);
+        if !self.come_to(made.saturating_add(20)) {
             self.given_up.store(true, Ordering::SeqCst);
         }
+        self.is_held.store(false, Ordering::SeqCst);
     }
 }
 
-/// Connects twice, and asks over the second connection while the first one's connect is held; then over the first.
-fn ask_beside(rt: &HostRuntime, to: u16, sent: &[u8], gate: &Holding) -> io::Result<Vec<u8>> {
-    let first = connect(rt, to)?;
-    let was_held = awaits(&gate.is_held);
-    let mut came = ask(rt, connect(rt, to)?, sent)?;
-    gate.is_let_go.store(true, Ordering::SeqCst);
-    if was_held {
-        came.append(&mut ask(rt, first, sent)?)?;
+/// Sends bytes, each once the one before has come back. Says whether the same came back.
+fn make_rounds(rt: &HostRuntime, to: u16, made: &AtomicU64) -> io::Result<bool> {
+    let mut stream = connect(rt, to)?;
+    let mut is_same = true;
+    for round in 0..ROUNDS {
+        let sent = [(round % 251) as u8];
+        stream.write_all(&sent)?;
+        let mut came = [0; 1];
+        stream.read_exact(&mut came)?;
+        is_same = is_same && came == sent;
+        made.fetch_add(1, Ordering::SeqCst);
     }
-    Ok(came)
+    Ok(is_same)
 }
 
-/// Takes two connections, and answers over the second and then over the first.
-fn answer_beside(rt: &HostRuntime, listener: &TcpListener, sent: &[u8]) -> io::Result<usize> {
-    let (first, _from) = listener.accept()?;
-    let (second, _from) = listener.accept()?;
-    let came = answer(rt, second, sent)?.len();
-    Ok(came.saturating_add(answer(rt, first, sent)?.len()))
+/// Takes a connection, and sends each byte back that comes.
+fn echo(listener: &TcpListener) -> io::Result<bool> {
+    let (mut stream, _from) = listener.accept()?;
+    let mut byte = [0; 1];
+    for _ in 0..=ROUNDS {
+        if stream.read(&mut byte)? == 0 {
+            return Ok(true);
+        }
+        stream.write_all(&byte)?;
+    }
+    Ok(false)
+}
+
+fn all_true(answers: &[io::Result<bool>]) -> bool {
+    answers.iter().all(|answer| matches!(answer, Ok(true)))
 }
 
 #[test]
-fn a_connect_that_is_held_holds_up_no_other_connection(rt: HostRuntime) -> Result<(), Fail> {
+fn a_read_or_write_that_is_held_holds_up_no_other_connection(rt: HostRuntime) -> Result<(), Fail> {
     let listener = TcpListener::bind(&rt, "127.0.0.1:0")?;
     let target = listener.local_addr()?.port();
     let listen = free_port(&rt)?;
-    let text = bytes(rt.alloc(), 251)?;
-    let gate = Holding {
-        is_held: AtomicBool::new(false),
-        is_let_go: AtomicBool::new(false),
-        given_up: AtomicBool::new(false),
-    };
-    let (relayed, (asked, answered)) = join(
+    let gate = Holding::new();
+    let mut made: [io::Result<bool>; CLIENTS] = array::from_fn(|_| Ok(false));
+    let mut echoed: [io::Result<bool>; CLIENTS] = array::from_fn(|_| Ok(false));
+    let (relayed, ((), ())) = join(
         &rt,
         || -> Result<Result<Served, ServeError>, AllocError> {
-            relay(&rt, rt.alloc(), listen, target, 2, &gate)
+            relay(&rt, rt.alloc(), listen, target, CLIENTS as u32, &gate)
         },
-        || -> (io::Result<Vec<u8>>, io::Result<usize>) {
+        || {
             join(
                 &rt,
-                || -> io::Result<Vec<u8>> { ask_beside(&rt, listen, &text, &gate) },
-                || -> io::Result<usize> { answer_beside(&rt, &listener, &text) },
+                || for_each_mut(
+                    &rt,
+                    &mut made,
+                    CLIENTS,
+                    &|_, one| *one = make_rounds(&rt, listen, &gate.made),
+                ),
+                || for_each_mut(&rt, &mut echoed, CLIENTS, &|_, one| *one = echo(&listener)),
             )
         },
     );
-    let both = Served {
-        connections: 2,
+    let all = Served {
+        connections: CLIENTS as u32,
         faults: 0,
     };
-    assert_eq!(rt; relayed?, Ok(both));
-    let asked = asked?;
-    assert!(rt; asked.len() / 2 == COUNT && asked.starts_with(&text) && asked.ends_with(&text));
-    assert_eq!(rt; answered? / 2, COUNT);
-    assert!(rt; !gate.given_up.load(Ordering::SeqCst));
+    assert_eq!(rt; relayed?, Ok(all));
+    assert!(rt; all_true(&made) && all_true(&echoed));
+    let holds = gate.holds.load(Ordering::SeqCst);
+    assert!(rt; 0 < holds, "no worker was held");
+    assert!(rt; !gate.given_up.load(Ordering::SeqCst), "{holds} were held");
     Ok(())
 }

@@ -7,7 +7,7 @@ ghost use Rattle.nio_link.specs.Slots.{carried_at};
 
 use nio_base::{Addr, Gate};
 use nio_link::{JobNet, MemoryNet, NetPlan, PeerPlan};
-use nio_operations::serve_group;
+use nio_operations::{CountedServe, serve_group_counted};
 use nio_poller::NoBell;
 use nio_relay::{ProxyPlan, Served};
 use nio_serve::ServeError;
@@ -16,7 +16,8 @@ use std::sync::Wait;
 use std::thread::Threads;
 
 /// A client and its target: the lengths of the pieces that each sends; how many bytes each takes a write at most; what
-/// fails; and how many bytes arrive at each, and whether both links are shut at the end.
+/// fails; and how many bytes arrive at each (at the client of a connection that fails: at most), and whether both links
+/// are shut at the end.
 #[derive(Clone, Copy)]
 pub(crate) struct Peer {
     pub sends: &'static [usize],
@@ -90,6 +91,27 @@ const ANYWHERE: Addr = Addr {
     port: 8080,
 };
 
+/// Serves so many connections by two workers, and counts what each of them and the dispatcher handle.
+pub(crate) fn serves_counted<R: Threads + Wait + Sync, G: Gate + Sync>(
+    rt: &R,
+    alloc: Global,
+    net: MemoryNet,
+    conns: usize,
+    gate: &G,
+) -> (CountedServe, MemoryNet)
+    requires fresh { (c : ChanNo) → IsUnused (carried_at net.slots c) }
+    requires unasked { (c : ChanNo) → places_after net.changes c ≡ unused }
+{
+    let plan = ProxyPlan {
+        listen: ANYWHERE,
+        target: ANYWHERE,
+        conns: conns.clamp(1, 16) as u32,
+    };
+    let mut jobs = JobNet::over(net);
+    let counted = serve_group_counted(rt, alloc, &mut jobs, &NoBell, gate, plan, 2);
+    (counted, jobs.into_net())
+}
+
 /// Serves so many connections by two workers.
 pub(crate) fn serves<R: Threads + Wait + Sync, G: Gate + Sync>(
     rt: &R,
@@ -101,12 +123,6 @@ pub(crate) fn serves<R: Threads + Wait + Sync, G: Gate + Sync>(
     requires fresh { (c : ChanNo) → IsUnused (carried_at net.slots c) }
     requires unasked { (c : ChanNo) → places_after net.changes c ≡ unused }
 {
-    let plan = ProxyPlan {
-        listen: ANYWHERE,
-        target: ANYWHERE,
-        conns: conns.clamp(1, 16) as u32,
-    };
-    let mut jobs = JobNet::over(net);
-    let served = serve_group(rt, alloc, &mut jobs, &NoBell, gate, plan, 2);
-    (served, jobs.into_net())
+    let (counted, net) = serves_counted(rt, alloc, net, conns, gate);
+    (counted.served, net)
 }

@@ -1,6 +1,7 @@
-//! The workers of a proxy run beside each other.
-use crate::nets::{Peer, SHORT, net_of, serves};
-use nio_base::Gate;
+//! The workers of a proxy run beside each other, and handle its completions.
+use crate::nets::{Peer, SHORT, net_of, serves, serves_counted};
+use nio_base::{ChanNo, Gate};
+use nio_operations::HandledCounts;
 use nio_relay::Served;
 use std::sync::Wait;
 use std::sync::atomic::{AtomicBool, Ordering};
@@ -10,9 +11,8 @@ use std::thread;
 /// How often a worker looks whether the other has come before it gives up.
 const TURNS: u32 = 100_000_000;
 
-/// Holds each of two workers until the other has come with a completion of its own. The dispatcher waits for a worker
-/// before it begins, and leaves the completions of the two connects to the workers: while one of them is held with the
-/// one, only the other can take the other one.
+/// Holds each of two workers until the other has come with a completion of its own. The connections have completions
+/// together; while one worker is held with the first of them, only the other can take the next one.
 #[derive(Drop)]
 struct Meeting {
     first_came: AtomicBool,
@@ -21,6 +21,21 @@ struct Meeting {
 }
 
 impl Meeting {
+    fn new() -> Meeting {
+        Meeting {
+            first_came: AtomicBool::new(false),
+            second_came: AtomicBool::new(false),
+            given_up: AtomicBool::new(false),
+        }
+    }
+
+    /// Whether both have come.
+    fn have_met(&self) -> bool {
+        let both = self.first_came.load(Ordering::SeqCst)
+            && self.second_came.load(Ordering::SeqCst);
+        both && !self.given_up.load(Ordering::SeqCst)
+    }
+
     fn meet(&self, own: &AtomicBool, other: &AtomicBool) {
         own.store(true, Ordering::SeqCst);
         for _ in 0..TURNS {
@@ -55,11 +70,7 @@ const STEADY: Peer = Peer {
 
 #[test]
 fn two_workers_meet(rt: HostRuntime) -> Result<(), Fail> {
-    let gate = Meeting {
-        first_came: AtomicBool::new(false),
-        second_came: AtomicBool::new(false),
-        given_up: AtomicBool::new(false),
-    };
+    let gate = Meeting::new();
     let net = net_of(rt.alloc(), &[STEADY; 2], None, None)?;
     let (served, _net) = serves(&rt, rt.alloc(), net, 2, &gate);
     let all = Served {
@@ -67,7 +78,48 @@ fn two_workers_meet(rt: HostRuntime) -> Result<(), Fail> {
         faults: 0,
     };
     assert_eq!(rt; served, Ok(all));
-    assert!(rt; gate.first_came.load(Ordering::SeqCst) && gate.second_came.load(Ordering::SeqCst));
-    assert!(rt; !gate.given_up.load(Ordering::SeqCst));
+    assert!(rt; gate.have_met());
+    Ok(())
+}
+
+/// A client that sends 64 bytes, of which each is read by itself.
+const PIECEMEAL: Peer = Peer {
+    sends: &[1; 64],
+    answers: &[],
+    most: 64,
+    at_target: 64,
+    at_client: 0,
+    ..SHORT
+};
+
+/// At least nine of ten completions of 16 connections, with 1,024 reads, are handled by workers, and each worker handles
+/// some. The dispatcher handles one that comes alone while all workers sleep.
+#[test]
+fn workers_handle_what_comes_together(rt: HostRuntime) -> Result<(), Fail> {
+    let gate = Meeting::new();
+    let net = net_of(rt.alloc(), &[PIECEMEAL; 16], None, None)?;
+    let (counted, net) = serves_counted(&rt, rt.alloc(), net, 16, &gate);
+    let all = Served {
+        connections: 16,
+        faults: 0,
+    };
+    assert_eq!(rt; counted.served, Ok(all));
+    for connection in 0..16 {
+        let target = ChanNo(2 * connection + 2);
+        assert_eq!(rt; net.put_bytes(target).len(), PIECEMEAL.at_target);
+    }
+    let HandledCounts {
+        by_dispatcher,
+        by_workers: [first, second, ..],
+    } = counted.counts;
+    let by_workers = first.saturating_add(second);
+    let handled = by_workers.saturating_add(by_dispatcher);
+    assert!(rt; gate.have_met());
+    assert!(rt; 1_024 <= handled, "{handled} were handled");
+    assert!(rt; 0 < first && 0 < second, "{first} and {second} by workers");
+    assert!(rt;
+        by_dispatcher <= handled / 10,
+        "{by_dispatcher} of {handled} by the dispatcher"
+    );
     Ok(())
 }
