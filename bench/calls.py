@@ -142,7 +142,7 @@ HEAD = """# The public calls
   what is given back; or `None`, where that is an answer. A method of `Caller` that answers a bool or a number answers
   false or 0 where a name was never made; `cancel`, `wakeup` and `interrupt` answer true in every other case.
 - **requires**: the call may be made only where its contract's `requires` is proved; every other call takes any values.
-- **waits**: the call may wait, and so takes a handle of `Wait` or of `Threads`; every other call returns.
+- **waits**: the call may wait, and so takes a handle of `Wait`; every other call returns.
 - **memory**: the call takes memory. Where that lacks, the answer says so, as `AllocError`, `Memory` or what it gives
   back; a call without such an answer only keeps the allocator.
 
@@ -160,7 +160,7 @@ BLOCK = re.compile(r"(pub )?(impl|trait)\b")
 FUNCTION = re.compile(r"\s*(pub(\([a-z]+\))? )?(const )?fn (\w+)")
 ITEM = re.compile(r"pub (struct|enum|type|const) (\w+)")
 # What a function's own bounds, or those of its block, say where it may wait.
-WAITS = re.compile(r"\b(Wait|Threads|HostRuntime)\b")
+WAITS = re.compile(r"\b(Wait|HostRuntime)\b")
 # What begins a definition, and what can name one.
 DEFINITION = re.compile(r"(?:(?:abbrev|unfoldable|opaque|pub|record|data)\s+)+([^\s:(){}]+)")
 WORD = re.compile(r"[A-Za-z_]\w*(?:\.[A-Za-z_]\w*)?")
@@ -665,7 +665,7 @@ def waiting_lost(library):
         found = sum(it.may_wait and it.has_body for it in crate.functions)
         if found != library.waiting[name]:
             said = library.waiting[name]
-            yield f"{name}: {found} functions have a bound Wait or Threads, and crates.txt has may_wait={said}"
+            yield f"{name}: {found} functions have a bound Wait, and crates.txt has may_wait={said}"
 
 
 def blocks_lost(library):
