@@ -51,13 +51,13 @@ SECTIONS = {
     ],
     "Nets": [
         "nio::net::CheckedNet", "nio::net::ByteBuffer", "nio::net::Net", "nio::net::MioNet", "nio::net::StreamLink",
-        "nio::net::MemoryNet", "nio_link", "nio_link::JobNet", "nio_link::Passable", "nio_link::PlaceLog",
+        "nio::net::MemoryNet", "nio_link", "nio_link::JobNet", "nio_link::Passable", "nio_link::PlaceLog", "nio_link::Occupants",
         "nio_datagram::DatagramLink", "nio_datagram::PacketNet", "nio_mio_packets::MioPackets",
         "nio_datagram::MemoryPackets", "nio_datagram::SentPacket",
     ],
     "Proxies": [
         "nio::proxy", "nio::proxy::Direction", "nio::proxy::ProxyPlan", "nio_operations", "nio_tickets", "nio_reactor",
-        "nio_datagram", "nio_serve", "nio_serve::Board", "nio_serve::Deal", "nio_serve::Way",
+        "nio_datagram", "nio_serve", "nio_serve::Way", "nio_board::Board", "nio_board::Deal", "nio_board::Polls",
     ],
     "Single steps of the table": [
         "nio::Words@steps/", "nio_history::Chan", "nio_history::Stage", "nio_steps",

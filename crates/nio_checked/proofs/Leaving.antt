@@ -6,27 +6,23 @@ use Rattle.nio_base.specs.declared.numbers.ChanNo.{ChanNo}
 use Rattle.nio_checked.specs.Checked.{Checked}
 
 abbrev checked_of : {N : Type 0} → N → ℕ → List (ChanNo × ℕ) → ℕ → Bool → Checked N
-checked_of net channels told given failed =
-    record { net = net; channels = channels; told = told; given = given; failed = failed }
+checked_of net numbers told given failed =
+    record { net = net; numbers = numbers; told = told; given = given; failed = failed }
 
 -- a checked net of which each part is as before
-pub unchanged : {N : Type 0} (old new : Checked N) → new.net ≡ old.net → new.channels ≡ old.channels
+pub unchanged : {N : Type 0} (old new : Checked N) → new.net ≡ old.net → new.numbers ≡ old.numbers
     → new.told ≡ old.told → new.given ≡ old.given → new.failed ≡ old.failed → new ≡ old
-unchanged {N = N} old new net channels told given failed =
-    ap (λ (x : N). checked_of x new.channels new.told new.given new.failed) net
-    ∙ (ap (λ (x : ℕ). checked_of old.net x new.told new.given new.failed) channels
-    ∙ (ap (λ (x : List (ChanNo × ℕ)). checked_of old.net old.channels x new.given new.failed) told
-    ∙ (ap (λ (x : ℕ). checked_of old.net old.channels old.told x new.failed) given
-    ∙ ap (λ (x : Bool). checked_of old.net old.channels old.told old.given x) failed)))
+unchanged {N = N} old new net numbers told given failed =
+    ap (λ (x : N). checked_of x new.numbers new.told new.given new.failed) net
+    ∙ (ap (λ (x : ℕ). checked_of old.net x new.told new.given new.failed) numbers
+    ∙ (ap (λ (x : List (ChanNo × ℕ)). checked_of old.net old.numbers x new.given new.failed) told
+    ∙ (ap (λ (x : ℕ). checked_of old.net old.numbers old.told x new.failed) given
+    ∙ ap (λ (x : Bool). checked_of old.net old.numbers old.told old.given x) failed)))
 
 -- a vector over whose elements as many others were written
 pub written : {X Z : Type 0} (v : Vec X Z) (ws : List X) {us : List X} → length ws ≡ v.len → ws ≡ us
     → (with_items v ws).items ≡ us
 written v ws many same = with_items_is v ws many ∙ same
-
--- it has as many elements as before
-pub as_many : {X Z : Type 0} (v : Vec X Z) (ws : List X) → length (with_items v ws).items ≡ length v.items
-as_many v ws = sym (with_items v ws).ok.0 ∙ v.ok.0
 
 -- a vector over whose elements they themselves were written
 pub written_same : {X Z : Type 0} (v : Vec X Z) (ws : List X) → ws ≡ v.items → (with_items v ws).items ≡ v.items

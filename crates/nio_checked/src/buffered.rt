@@ -1,22 +1,20 @@
 //! The calls of a checked net that take a buffer.
-ghost use Rattle.std.specs.Prelude.{◌≡◌, ◌≢◌, ◌↔◌, ◌-◌, ◌<◌, ◌≤◌, [], Err, IfOk, IsTrue, Ok, OnErr, length};
-ghost use Rattle.nio_base.specs.declared.numbers.ChanNo.{ChanNo as Channel};
-ghost use Rattle.nio_link.specs.Links.{IsPut, IsSameBut, after_read, after_write};
+ghost use Rattle.std.specs.Prelude.{◌≡◌, ◌≢◌, ◌↔◌, ◌-◌, ◌<◌, ◌≤◌, [], Err, IfOk, IsTrue, Ok, OnErr, length, take};
+ghost use Rattle.nio_link.specs.Nets.{view_of, Reads, Writes};
 ghost use Rattle.nio_link.specs.Places.{IsLinked};
 ghost use Rattle.nio_link.specs.Readiness.{ready_after_read, ready_after_write};
 ghost use Rattle.nio_link.specs.declared.net.Got.TheVariants as got;
 ghost use Rattle.nio_link.specs.declared.net.Put.TheVariants as put;
 ghost use Rattle.nio_link.specs.declared.place.Standing.TheVariants as standing;
-ghost use Rattle.nio_poller.specs.Polls.{CountsFaults};
 ghost use Rattle.nio_checked.specs.Buffered.{Gains, IsGotBy, Loses, came_to, count_got, count_put};
 ghost use Rattle.nio_checked.specs.Checked.{as_failed};
 ghost use Rattle.nio_checked.specs.Listed.{IsTold, told_after};
-ghost use Rattle.nio_checked.specs.declared.calls.NetError.TheVariants.{Fault, NotAllowed};
+ghost use Rattle.nio_checked.specs.declared.calls.NetError.TheVariants.{NotAllowed};
 
 use crate::buffer::ByteBuffer;
 use crate::calls::NetError;
 use crate::checked::CheckedNet;
-use nio_base::ChanNo;
+use nio_base::ChanId;
 use nio_link::{Got, Net, Put};
 
 // How many bytes one read takes at most.
@@ -25,10 +23,10 @@ const BLOCK: usize = 4_096;
 impl<N: Net + Drop> CheckedNet<N> {
     /// Reads what has come on a link into the buffer, as far as it has room: Java's `read`. `NotYet` where `read` says
     /// it, and where the buffer is full. One call reads at most 4,096 bytes.
-    pub fn read_buf(&mut self, chan: ChanNo, buffer: &mut ByteBuffer) -> Result<Got, NetError>
+    pub fn read_buf(&mut self, chan: ChanId, buffer: &mut ByteBuffer) -> Result<Got, NetError>
         ensures allowed { result ≢ Err NotAllowed ↔ IsLinked (N.place self.old.net chan).standing }
         ensures refused { result ≡ Err NotAllowed → self.new ≡ self.old }
-        ensures untold { result ≢ Err NotAllowed → ¬ IsTold self.old.told chan 1
+        ensures untold { result ≢ Err NotAllowed → ¬ IsTold self.old.told chan.number 1
             → (result ≡ Ok got.NotYet) × (self.new ≡ self.old) }
         ensures full { result ≢ Err NotAllowed → buffer.old.capacity ≤ length buffer.old.items
             → (result ≡ Ok got.NotYet) × (self.new ≡ self.old) }
@@ -37,26 +35,17 @@ impl<N: Net + Drop> CheckedNet<N> {
         ensures gains { IfOk result (λ got. Gains buffer.old buffer.new (count_got got)) }
         ensures err { OnErr result (buffer.new ≡ buffer.old) }
 
-        // As every net.
-        ensures cause { CountsFaults Fault (N.faults self.old.net chan) (N.faults self.new.net chan) result }
-        ensures others { IsSameBut chan (N.faults self.old.net) (N.faults self.new.net) }
+        // As every net: what came to the buffer was read.
         ensures got { IfOk result (IsGotBy (buffer.old.capacity - length buffer.old.items)) }
-        ensures link { N.link self.new.net chan
-            ≡ after_read (as_failed result) (came_to buffer.old buffer.new) (N.link self.old.net chan) }
-        ensures links { IsSameBut chan (N.link self.old.net) (N.link self.new.net) }
-        ensures asked { result ≢ Err NotAllowed → IsTold self.old.told chan 1
+        ensures call { result ≢ Err NotAllowed → IsTold self.old.told chan.number 1
             → length buffer.old.items < buffer.old.capacity
-            → N.ready self.new.net chan ≡ ready_after_read (as_failed result) (N.ready self.old.net chan) }
-        ensures ready_else { IsSameBut chan (N.ready self.old.net) (N.ready self.new.net) }
-        ensures places { (c : Channel) → N.place self.new.net c ≡ N.place self.old.net c }
-        ensures accepted { N.accepted self.new.net ≡ N.accepted self.old.net }
-        ensures polls { N.poll_faults self.new.net ≡ N.poll_faults self.old.net }
-        ensures shown { N.polls self.new.net ≡ N.polls self.old.net }
+            → Reads chan (view_of N.Net self.old.net) (view_of N.Net self.new.net) (came_to buffer.old buffer.new)
+            (came_to buffer.old buffer.new) (as_failed result) }
 
         // What is told from then on.
-        ensures told { result ≢ Err NotAllowed → IsTold self.old.told chan 1
+        ensures told { result ≢ Err NotAllowed → IsTold self.old.told chan.number 1
             → length buffer.old.items < buffer.old.capacity
-            → self.new.told ≡ told_after chan (ready_after_read (as_failed result)) self.old.told }
+            → self.new.told ≡ told_after chan.number (ready_after_read (as_failed result)) self.old.told }
         ensures rest { self.new ≡ record self.old { net = self.new.net; told = self.new.told } }
     {
         let size = buffer.room().min(BLOCK);
@@ -76,27 +65,19 @@ impl<N: Net + Drop> CheckedNet<N> {
     }
 
     // Reads into the front of the block.
-    fn read_front(&mut self, chan: ChanNo, block: &mut [u8], size: usize) -> Result<Got, NetError>
+    fn read_front(&mut self, chan: ChanId, block: &mut [u8], size: usize) -> Result<Got, NetError>
         requires some { 1 ≤ size }
         requires fits { size ≤ length block.old }
         ensures allowed { result ≢ Err NotAllowed ↔ IsLinked (N.place self.old.net chan).standing }
         ensures refused { result ≡ Err NotAllowed → self.new ≡ self.old }
-        ensures untold { result ≢ Err NotAllowed → ¬ IsTold self.old.told chan 1
+        ensures untold { result ≢ Err NotAllowed → ¬ IsTold self.old.told chan.number 1
             → (result ≡ Ok got.NotYet) × (self.new ≡ self.old) }
-        ensures cause { CountsFaults Fault (N.faults self.old.net chan) (N.faults self.new.net chan) result }
-        ensures others { IsSameBut chan (N.faults self.old.net) (N.faults self.new.net) }
         ensures got { IfOk result (IsGotBy size) }
-        ensures link { N.link self.new.net chan ≡ after_read (as_failed result) block.new (N.link self.old.net chan) }
-        ensures links { IsSameBut chan (N.link self.old.net) (N.link self.new.net) }
-        ensures asked { result ≢ Err NotAllowed → IsTold self.old.told chan 1
-            → N.ready self.new.net chan ≡ ready_after_read (as_failed result) (N.ready self.old.net chan) }
-        ensures ready_else { IsSameBut chan (N.ready self.old.net) (N.ready self.new.net) }
-        ensures places { (c : Channel) → N.place self.new.net c ≡ N.place self.old.net c }
-        ensures accepted { N.accepted self.new.net ≡ N.accepted self.old.net }
-        ensures polls { N.poll_faults self.new.net ≡ N.poll_faults self.old.net }
-        ensures shown { N.polls self.new.net ≡ N.polls self.old.net }
-        ensures told { result ≢ Err NotAllowed → IsTold self.old.told chan 1
-            → self.new.told ≡ told_after chan (ready_after_read (as_failed result)) self.old.told }
+        ensures call { result ≢ Err NotAllowed → IsTold self.old.told chan.number 1
+            → Reads chan (view_of N.Net self.old.net) (view_of N.Net self.new.net) (take size block.old)
+            (take size block.new) (as_failed result) }
+        ensures told { result ≢ Err NotAllowed → IsTold self.old.told chan.number 1
+            → self.new.told ≡ told_after chan.number (ready_after_read (as_failed result)) self.old.told }
         ensures rest { self.new ≡ record self.old { net = self.new.net; told = self.new.told } }
     {
         self.read(chan, &mut block[..size])
@@ -104,10 +85,10 @@ impl<N: Net + Drop> CheckedNet<N> {
 
     /// Writes bytes of the buffer on a link, from the first on, as many as it takes: Java's `write`. They leave the
     /// buffer. `NotYet` where `write` says it, and where the buffer is empty.
-    pub fn write_buf(&mut self, chan: ChanNo, buffer: &mut ByteBuffer) -> Result<Put, NetError>
+    pub fn write_buf(&mut self, chan: ChanId, buffer: &mut ByteBuffer) -> Result<Put, NetError>
         ensures allowed { result ≢ Err NotAllowed ↔ ((N.place self.old.net chan).standing ≡ standing.Linked) }
         ensures refused { result ≡ Err NotAllowed → self.new ≡ self.old }
-        ensures untold { result ≢ Err NotAllowed → ¬ IsTold self.old.told chan 4
+        ensures untold { result ≢ Err NotAllowed → ¬ IsTold self.old.told chan.number 4
             → (result ≡ Ok put.NotYet) × (self.new ≡ self.old) }
         ensures empty { result ≢ Err NotAllowed → buffer.old.items ≡ []
             → (result ≡ Ok put.NotYet) × (self.new ≡ self.old) }
@@ -117,23 +98,13 @@ impl<N: Net + Drop> CheckedNet<N> {
         ensures err { OnErr result (buffer.new ≡ buffer.old) }
 
         // As every net.
-        ensures cause { CountsFaults Fault (N.faults self.old.net chan) (N.faults self.new.net chan) result }
-        ensures others { IsSameBut chan (N.faults self.old.net) (N.faults self.new.net) }
-        ensures put { IfOk result (IsPut buffer.old.items) }
-        ensures link { N.link self.new.net chan
-            ≡ after_write (as_failed result) buffer.old.items (N.link self.old.net chan) }
-        ensures links { IsSameBut chan (N.link self.old.net) (N.link self.new.net) }
-        ensures asked { result ≢ Err NotAllowed → IsTold self.old.told chan 4 → buffer.old.items ≢ []
-            → N.ready self.new.net chan ≡ ready_after_write (as_failed result) (N.ready self.old.net chan) }
-        ensures ready_else { IsSameBut chan (N.ready self.old.net) (N.ready self.new.net) }
-        ensures places { (c : Channel) → N.place self.new.net c ≡ N.place self.old.net c }
-        ensures accepted { N.accepted self.new.net ≡ N.accepted self.old.net }
-        ensures polls { N.poll_faults self.new.net ≡ N.poll_faults self.old.net }
-        ensures shown { N.polls self.new.net ≡ N.polls self.old.net }
+        ensures call { result ≢ Err NotAllowed → IsTold self.old.told chan.number 4 → buffer.old.items ≢ []
+            → Writes chan (view_of N.Net self.old.net) (view_of N.Net self.new.net) buffer.old.items
+            (as_failed result) }
 
         // What is told from then on.
-        ensures told { result ≢ Err NotAllowed → IsTold self.old.told chan 4 → buffer.old.items ≢ []
-            → self.new.told ≡ told_after chan (ready_after_write (as_failed result)) self.old.told }
+        ensures told { result ≢ Err NotAllowed → IsTold self.old.told chan.number 4 → buffer.old.items ≢ []
+            → self.new.told ≡ told_after chan.number (ready_after_write (as_failed result)) self.old.told }
         ensures rest { self.new ≡ record self.old { net = self.new.net; told = self.new.told } }
     {
         if buffer.is_empty() {

@@ -1,25 +1,25 @@
 //! The checked net.
 ghost use Rattle.std.specs.Prelude.{◌≡◌, ◌≢◌, ◌↔◌, ◌+◌, ◌<◌, [], Err, IfNone, IfOk, IfSome, IsTrue, Ok, OnErr, false};
-ghost use Rattle.std.specs.Prelude.{slice_get};
-ghost use Rattle.nio_base.specs.declared.numbers.ChanNo.{ChanNo as Channel};
-ghost use Rattle.nio_link.specs.Accepts.{accepted_after};
-ghost use Rattle.nio_link.specs.Links.{IsGot, IsPut, IsSameBut, after_read, after_write};
-ghost use Rattle.nio_link.specs.Places.{IsLinked, place_after_accept, place_after_close, place_after_listen, unused};
-ghost use Rattle.nio_link.specs.Readiness.{ready_after_accept, ready_after_read, ready_after_write};
+ghost use Rattle.std.specs.Prelude.{slice_get, Some};
+ghost use Rattle.nio_base.specs.declared.numbers.ChanId.{ChanId as Channel};
+ghost use Rattle.nio_link.specs.Links.{IsGot, IsPut};
+ghost use Rattle.nio_link.specs.Nets.{view_of, Listens, Accepts, Connects, Finishes, Reads, Writes, Shuts, Closes};
+ghost use Rattle.nio_link.specs.Places.{never_asked, is_there, IsFree, IsLinked};
+ghost use Rattle.nio_link.specs.Readiness.{ready_after_accept, ready_after_close, ready_after_connect, ready_after_making};
+ghost use Rattle.nio_link.specs.Readiness.{ready_after_read, ready_after_write};
 ghost use Rattle.nio_link.specs.declared.net.Got.TheVariants as got;
 ghost use Rattle.nio_link.specs.declared.net.Put.TheVariants as put;
 ghost use Rattle.nio_link.specs.declared.place.Standing.TheVariants as standing;
-ghost use Rattle.nio_poller.specs.Polls.{CountsFaults};
 ghost use Rattle.nio_checked.specs.Checked.{as_failed};
 ghost use Rattle.nio_checked.specs.Listed.{IsTold, told_after};
-ghost use Rattle.nio_checked.specs.declared.calls.NetError.TheVariants.{Fault, NotAllowed};
+ghost use Rattle.nio_checked.specs.declared.calls.NetError.TheVariants.{NotAllowed};
 
 use crate::calls;
-use crate::calls::{NetError, no_standings};
+use crate::calls::NetError;
 use crate::told::list;
-use nio_base::{Addr, ChanNo, Ops};
+use nio_base::{Addr, ChanId, ChanNo, Ops};
 use nio_history::Mode;
-use nio_link::{Got, Net, Put, Standing};
+use nio_link::{Got, Net, Occupants, Put};
 use nio_poller::{PollError, Poller};
 use nio_select::{Asked, Told};
 use std::alloc::{AllocError, Global};
@@ -31,7 +31,7 @@ use std::sync::Wait;
 #[derive(Drop)]
 pub struct CheckedNet<N: Net + Drop> {
     net: N,
-    standings: Vec<Option<Standing>>,
+    kept: Occupants,
     told: Vec<(ChanNo, Ops)>,
     given: usize,
     failed: bool,
@@ -45,31 +45,31 @@ impl<N: Net + Drop> Model for CheckedNet<N> {
 
     ghost view = { λ c. record {
       net = c.net;
-      channels = length c.standings.items;
+      numbers = length c.kept;
       told = c.told.items;
       given = c.given;
       failed = c.failed;
     } };
 
-    ghost invariant = { λ c. IsChecked (N.ready c.net) (N.place c.net) c.standings.items c.told.items };
+    ghost invariant = { λ c. IsChecked (N.ready c.net) (N.place c.net) c.kept c.told.items };
 }
 
 impl<N: Net + Drop> CheckedNet<N> {
-    /// A checked net over a net on which no call was made yet, for so many channels, from 0 on.
-    pub fn make(alloc: Global, net: N, channels: u32) -> Result<CheckedNet<N>, AllocError>
-        requires { (c : Channel) → N.place net c ≡ unused }
+    /// A checked net over a net on which no call was made yet, for so many numbers, from 0 on.
+    pub fn make(alloc: Global, net: N, numbers: u32) -> Result<CheckedNet<N>, AllocError>
+        requires { (c : Channel) → N.place net c ≡ never_asked }
         ensures { IfOk result (λ made. made ≡ record {
           net = net;
-          channels = channels;
+          numbers = numbers;
           told = [];
           given = 0;
           failed = false;
         }) }
     {
-        let standings = no_standings(alloc, channels)?;
+        let kept = Occupants::make(alloc, numbers as usize)?;
         Ok(CheckedNet {
             net,
-            standings,
+            kept,
             told: Vec::new(alloc),
             given: 0,
             failed: false,
@@ -83,7 +83,17 @@ impl<N: Net + Drop> CheckedNet<N> {
         &self.net
     }
 
-    /// What the last poll told, one channel after the other, with what it is ready for.
+    /// The channel of this number under which a link or a listener stands: at most one does. What a poll told of the
+    /// number is told of that channel.
+    #[tactic(auto, using(crate::proofs::Standing::standing_channel_is))]
+    pub fn channel_at(&self, number: ChanNo) -> Option<ChanId>
+        ensures { (c : Channel) → (result ≡ Some c)
+            ↔ ((c.number ≡ number) × IsTrue (is_there (N.place self.now.net c).standing)) }
+    {
+        calls::standing_at(&self.kept, number)
+    }
+
+    /// What the last poll told, one number after the other, with what its channel is ready for (`channel_at`).
     pub fn next_told(&mut self) -> Option<(ChanNo, Ops)>
         ensures next { result ≡ slice_get self.old.told self.old.given }
         ensures given { IfSome result (λ _. self.new ≡ record self.old { given = self.old.given + 1 }) }
@@ -98,165 +108,153 @@ impl<N: Net + Drop> CheckedNet<N> {
         }
     }
 
-    /// Makes a listener under this channel.
-    pub fn listen(&mut self, chan: ChanNo, at: Addr) -> Result<(), NetError>
+    /// Makes a listener under this channel. Where that fails, the channel can be asked again. What was told of the
+    /// number is not told of the listener.
+    pub fn listen(&mut self, chan: ChanId, at: Addr) -> Result<(), NetError>
         ensures allowed { result ≢ Err NotAllowed
-            ↔ ((chan.0 < self.old.channels) × (N.place self.old.net chan ≡ unused)) }
+            ↔ ((chan.number.0 < self.old.numbers) × IsFree (N.place self.old.net) chan) }
         ensures refused { result ≡ Err NotAllowed → self.new ≡ self.old }
-
-        // As every net.
-        ensures cause { CountsFaults Fault (N.faults self.old.net chan) (N.faults self.new.net chan) result }
-        ensures others { IsSameBut chan (N.faults self.old.net) (N.faults self.new.net) }
-        ensures links { (c : Channel) → N.link self.new.net c ≡ N.link self.old.net c }
-        ensures ready { (c : Channel) → N.ready self.new.net c ≡ N.ready self.old.net c }
-        ensures made { result ≢ Err NotAllowed → N.place self.new.net chan ≡ place_after_listen (as_failed result) at }
-        ensures places { IsSameBut chan (N.place self.old.net) (N.place self.new.net) }
-        ensures accepted { N.accepted self.new.net ≡ N.accepted self.old.net }
-        ensures polls { N.poll_faults self.new.net ≡ N.poll_faults self.old.net }
-        ensures shown { N.polls self.new.net ≡ N.polls self.old.net }
-
-        // Nothing else changes.
-        ensures rest { self.new ≡ record self.old { net = self.new.net } }
+        ensures call { result ≢ Err NotAllowed
+            → Listens chan at (view_of N.Net self.old.net) (view_of N.Net self.new.net) (as_failed result) }
+        ensures told { result ≢ Err NotAllowed → self.new.told ≡ told_after chan.number
+            (ready_after_making (is_there (N.place self.new.net chan).standing)) self.old.told }
+        ensures rest { self.new ≡ record self.old { net = self.new.net; told = self.new.told } }
     {
-        calls::listen(&mut self.net, &mut self.standings, &self.told, chan, at)
+        calls::listen(&mut self.net, &mut self.kept, &mut self.told, chan, at)
     }
 
     /// Takes a connection from a listener, and makes a link of it under the channel `chan`. False where none has come,
-    /// as far as the last poll told and no call since has found otherwise.
-    pub fn accept(&mut self, listener: ChanNo, chan: ChanNo) -> Result<bool, NetError>
-        ensures allowed { result ≢ Err NotAllowed ↔ ((N.place self.old.net listener).standing ≡ standing.Listening)
-            × ((chan.0 < self.old.channels) × (N.place self.old.net chan ≡ unused)) }
+    /// as far as the last poll told and no call since has found otherwise. What was told of the link's number is not
+    /// told of the link.
+    pub fn accept(&mut self, listener: ChanId, chan: ChanId) -> Result<bool, NetError>
+        ensures allowed { result ≢ Err NotAllowed ↔ (((N.place self.old.net listener).standing ≡ standing.Listening)
+            × ((chan.number.0 < self.old.numbers) × IsFree (N.place self.old.net) chan)) }
         ensures refused { result ≡ Err NotAllowed → self.new ≡ self.old }
-        ensures untold { result ≢ Err NotAllowed → ¬ IsTold self.old.told listener 16
+        ensures untold { result ≢ Err NotAllowed → ¬ IsTold self.old.told listener.number 16
             → (result ≡ Ok false) × (self.new ≡ self.old) }
-
-        // As every net.
-        ensures cause { CountsFaults Fault (N.faults self.old.net listener) (N.faults self.new.net listener) result }
-        ensures others { IsSameBut listener (N.faults self.old.net) (N.faults self.new.net) }
-        ensures links { (c : Channel) → N.link self.new.net c ≡ N.link self.old.net c }
-        ensures asked { result ≢ Err NotAllowed → IsTold self.old.told listener 16
-            → N.ready self.new.net listener ≡ ready_after_accept (as_failed result) (N.ready self.old.net listener) }
-        ensures ready_else { IsSameBut listener (N.ready self.old.net) (N.ready self.new.net) }
-        ensures made { result ≢ Err NotAllowed
-            → N.place self.new.net chan ≡ place_after_accept (as_failed result) listener (N.place self.old.net chan) }
-        ensures places { IsSameBut chan (N.place self.old.net) (N.place self.new.net) }
-        ensures accepted { N.accepted self.new.net
-            ≡ accepted_after (as_failed result) chan (N.accepted self.old.net) }
-        ensures polls { N.poll_faults self.new.net ≡ N.poll_faults self.old.net }
-        ensures shown { N.polls self.new.net ≡ N.polls self.old.net }
-
-        // What is told from then on.
-        ensures told { result ≢ Err NotAllowed → IsTold self.old.told listener 16
-            → self.new.told ≡ told_after listener (ready_after_accept (as_failed result)) self.old.told }
+        ensures call { result ≢ Err NotAllowed → IsTold self.old.told listener.number 16
+            → Accepts listener chan (view_of N.Net self.old.net) (view_of N.Net self.new.net) (as_failed result) }
+        ensures told { result ≢ Err NotAllowed → IsTold self.old.told listener.number 16 → self.new.told
+            ≡ told_after chan.number (ready_after_making (is_there (N.place self.new.net chan).standing))
+            (told_after listener.number (ready_after_accept (as_failed result)) self.old.told) }
         ensures rest { self.new ≡ record self.old { net = self.new.net; told = self.new.told } }
     {
         calls::accept(
             &mut self.net,
-            &mut self.standings,
+            &mut self.kept,
             &mut self.told,
             listener,
             chan,
         )
     }
 
+    /// Begins to connect a link under this channel. True where it is connected; false where that isn't done yet. A link
+    /// that couldn't be connected is closed. What was told of the number is not told of the link.
+    pub fn connect(&mut self, chan: ChanId, to: Addr) -> Result<bool, NetError>
+        ensures allowed { result ≢ Err NotAllowed
+            ↔ ((chan.number.0 < self.old.numbers) × IsFree (N.place self.old.net) chan) }
+        ensures refused { result ≡ Err NotAllowed → self.new ≡ self.old }
+        ensures call { result ≢ Err NotAllowed
+            → Connects chan to (view_of N.Net self.old.net) (view_of N.Net self.new.net) (as_failed result) }
+        ensures told { result ≢ Err NotAllowed → self.new.told ≡ told_after chan.number
+            (ready_after_making (is_there (N.place self.new.net chan).standing)) self.old.told }
+        ensures rest { self.new ≡ record self.old { net = self.new.net; told = self.new.told } }
+    {
+        calls::connect(&mut self.net, &mut self.kept, &mut self.told, chan, to)
+    }
+
+    /// Goes on connecting a link. True where it is connected; false where that isn't done yet, as far as the last poll
+    /// told and no call since has found otherwise. A link that couldn't be connected is closed.
+    pub fn finish_connect(&mut self, chan: ChanId) -> Result<bool, NetError>
+        ensures allowed { result ≢ Err NotAllowed ↔ ((N.place self.old.net chan).standing ≡ standing.Connecting) }
+        ensures refused { result ≡ Err NotAllowed → self.new ≡ self.old }
+        ensures untold { result ≢ Err NotAllowed → ¬ IsTold self.old.told chan.number 8
+            → (result ≡ Ok false) × (self.new ≡ self.old) }
+        ensures call { result ≢ Err NotAllowed → IsTold self.old.told chan.number 8
+            → Finishes chan (view_of N.Net self.old.net) (view_of N.Net self.new.net) (as_failed result) }
+        ensures told { result ≢ Err NotAllowed → IsTold self.old.told chan.number 8
+            → self.new.told ≡ told_after chan.number (ready_after_connect (as_failed result)) self.old.told }
+        ensures rest { self.new ≡ record self.old { net = self.new.net; told = self.new.told } }
+    {
+        calls::finish_connect(&mut self.net, &mut self.kept, &mut self.told, chan)
+    }
+
     /// Reads what has come on a link, as far as it fits. `NotYet` where the last poll didn't tell that it can be read,
     /// or a call since has found that it can't.
-    pub fn read(&mut self, chan: ChanNo, into: &mut [u8]) -> Result<Got, NetError>
+    pub fn read(&mut self, chan: ChanId, into: &mut [u8]) -> Result<Got, NetError>
         requires { into.old ≢ [] }
         ensures allowed { result ≢ Err NotAllowed ↔ IsLinked (N.place self.old.net chan).standing }
         ensures refused { result ≡ Err NotAllowed → (self.new ≡ self.old) × (into.new ≡ into.old) }
-        ensures untold { result ≢ Err NotAllowed → ¬ IsTold self.old.told chan 1
+        ensures untold { result ≢ Err NotAllowed → ¬ IsTold self.old.told chan.number 1
             → (result ≡ Ok got.NotYet) × (self.new ≡ self.old) × (into.new ≡ into.old) }
-
-        // As every net.
-        ensures cause { CountsFaults Fault (N.faults self.old.net chan) (N.faults self.new.net chan) result }
-        ensures others { IsSameBut chan (N.faults self.old.net) (N.faults self.new.net) }
         ensures got { IfOk result (IsGot into.old) }
-        ensures link { N.link self.new.net chan ≡ after_read (as_failed result) into.new (N.link self.old.net chan) }
-        ensures links { IsSameBut chan (N.link self.old.net) (N.link self.new.net) }
-        ensures asked { result ≢ Err NotAllowed → IsTold self.old.told chan 1
-            → N.ready self.new.net chan ≡ ready_after_read (as_failed result) (N.ready self.old.net chan) }
-        ensures ready_else { IsSameBut chan (N.ready self.old.net) (N.ready self.new.net) }
-        ensures places { (c : Channel) → N.place self.new.net c ≡ N.place self.old.net c }
-        ensures accepted { N.accepted self.new.net ≡ N.accepted self.old.net }
-        ensures polls { N.poll_faults self.new.net ≡ N.poll_faults self.old.net }
-        ensures shown { N.polls self.new.net ≡ N.polls self.old.net }
-
-        // What is told from then on.
-        ensures told { result ≢ Err NotAllowed → IsTold self.old.told chan 1
-            → self.new.told ≡ told_after chan (ready_after_read (as_failed result)) self.old.told }
+        ensures call { result ≢ Err NotAllowed → IsTold self.old.told chan.number 1
+            → Reads chan (view_of N.Net self.old.net) (view_of N.Net self.new.net) into.old into.new
+            (as_failed result) }
+        ensures told { result ≢ Err NotAllowed → IsTold self.old.told chan.number 1
+            → self.new.told ≡ told_after chan.number (ready_after_read (as_failed result)) self.old.told }
         ensures rest { self.new ≡ record self.old { net = self.new.net; told = self.new.told } }
     {
-        calls::read(&mut self.net, &self.standings, &mut self.told, chan, into)
+        calls::read(&mut self.net, &self.kept, &mut self.told, chan, into)
     }
 
     /// Writes bytes on a link, as many as it takes. `NotYet` where the last poll didn't tell that it can be written, or
     /// a call since has found that it can't.
-    pub fn write(&mut self, chan: ChanNo, from: &[u8]) -> Result<Put, NetError>
+    pub fn write(&mut self, chan: ChanId, from: &[u8]) -> Result<Put, NetError>
         requires { from.now ≢ [] }
         ensures allowed { result ≢ Err NotAllowed ↔ ((N.place self.old.net chan).standing ≡ standing.Linked) }
         ensures refused { result ≡ Err NotAllowed → self.new ≡ self.old }
-        ensures untold { result ≢ Err NotAllowed → ¬ IsTold self.old.told chan 4
+        ensures untold { result ≢ Err NotAllowed → ¬ IsTold self.old.told chan.number 4
             → (result ≡ Ok put.NotYet) × (self.new ≡ self.old) }
-
-        // As every net.
-        ensures cause { CountsFaults Fault (N.faults self.old.net chan) (N.faults self.new.net chan) result }
-        ensures others { IsSameBut chan (N.faults self.old.net) (N.faults self.new.net) }
         ensures put { IfOk result (IsPut from.now) }
-        ensures link { N.link self.new.net chan ≡ after_write (as_failed result) from.now (N.link self.old.net chan) }
-        ensures links { IsSameBut chan (N.link self.old.net) (N.link self.new.net) }
-        ensures asked { result ≢ Err NotAllowed → IsTold self.old.told chan 4
-            → N.ready self.new.net chan ≡ ready_after_write (as_failed result) (N.ready self.old.net chan) }
-        ensures ready_else { IsSameBut chan (N.ready self.old.net) (N.ready self.new.net) }
-        ensures places { (c : Channel) → N.place self.new.net c ≡ N.place self.old.net c }
-        ensures accepted { N.accepted self.new.net ≡ N.accepted self.old.net }
-        ensures polls { N.poll_faults self.new.net ≡ N.poll_faults self.old.net }
-        ensures shown { N.polls self.new.net ≡ N.polls self.old.net }
-
-        // What is told from then on.
-        ensures told { result ≢ Err NotAllowed → IsTold self.old.told chan 4
-            → self.new.told ≡ told_after chan (ready_after_write (as_failed result)) self.old.told }
+        ensures call { result ≢ Err NotAllowed → IsTold self.old.told chan.number 4
+            → Writes chan (view_of N.Net self.old.net) (view_of N.Net self.new.net) from.now (as_failed result) }
+        ensures told { result ≢ Err NotAllowed → IsTold self.old.told chan.number 4
+            → self.new.told ≡ told_after chan.number (ready_after_write (as_failed result)) self.old.told }
         ensures rest { self.new ≡ record self.old { net = self.new.net; told = self.new.told } }
     {
-        calls::write(&mut self.net, &self.standings, &mut self.told, chan, from)
+        calls::write(&mut self.net, &self.kept, &mut self.told, chan, from)
     }
 
     // Whether the channel has a link that can be read.
-    pub(crate) fn may_read(&self, chan: ChanNo) -> bool
+    pub(crate) fn may_read(&self, chan: ChanId) -> bool
         ensures { IsTrue result ↔ IsLinked (N.place self.now.net chan).standing }
     {
-        calls::is_linked(calls::kept_of(&self.standings, chan))
+        calls::is_linked(calls::standing_of(&self.kept, chan))
     }
 
     // Whether the channel has a link that can be written.
-    pub(crate) fn may_write(&self, chan: ChanNo) -> bool
+    pub(crate) fn may_write(&self, chan: ChanId) -> bool
         ensures { IsTrue result ↔ ((N.place self.now.net chan).standing ≡ standing.Linked) }
     {
-        calls::is_whole(calls::kept_of(&self.standings, chan))
+        calls::is_whole(calls::standing_of(&self.kept, chan))
     }
 
-    /// Closes what stands under the channel, if anything does.
-    pub fn close(&mut self, chan: ChanNo)
-        // As every net.
-        ensures faults { (c : Channel) → N.faults self.new.net c ≡ N.faults self.old.net c }
-        ensures links { (c : Channel) → N.link self.new.net c ≡ N.link self.old.net c }
-        ensures ready { (c : Channel) → N.ready self.new.net c ≡ N.ready self.old.net c }
-        ensures closed { N.place self.new.net chan ≡ place_after_close (N.place self.old.net chan) }
-        ensures places { IsSameBut chan (N.place self.old.net) (N.place self.new.net) }
-        ensures accepted { N.accepted self.new.net ≡ N.accepted self.old.net }
-        ensures polls { N.poll_faults self.new.net ≡ N.poll_faults self.old.net }
-        ensures shown { N.polls self.new.net ≡ N.polls self.old.net }
-
-        // Nothing else changes.
+    /// Shuts the side of a link on which bytes are written, so that the other side finds their end.
+    pub fn shut_write(&mut self, chan: ChanId) -> Result<(), NetError>
+        ensures allowed { result ≢ Err NotAllowed ↔ ((N.place self.old.net chan).standing ≡ standing.Linked) }
+        ensures refused { result ≡ Err NotAllowed → self.new ≡ self.old }
+        ensures call { result ≢ Err NotAllowed
+            → Shuts chan (view_of N.Net self.old.net) (view_of N.Net self.new.net) (as_failed result) }
         ensures rest { self.new ≡ record self.old { net = self.new.net } }
     {
-        calls::close(&mut self.net, &mut self.standings, &self.told, chan);
+        calls::shut_write(&mut self.net, &mut self.kept, &self.told, chan)
+    }
+
+    /// Closes what stands under the channel, if anything does. What was told of it is told no more.
+    pub fn close(&mut self, chan: ChanId)
+        ensures call { Closes chan (view_of N.Net self.old.net) (view_of N.Net self.new.net) }
+        ensures told { self.new.told
+            ≡ told_after chan.number (ready_after_close (N.place self.old.net chan).standing) self.old.told }
+        ensures rest { self.new ≡ record self.old { net = self.new.net; told = self.new.told } }
+    {
+        calls::close(&mut self.net, &mut self.kept, &mut self.told, chan);
     }
 }
 
 impl<N: Net + Drop> Poller for CheckedNet<N> {
     ghost use Rattle.nio_base.specs.declared.numbers.ChanNo.{ChanNo};
-    ghost use Rattle.nio_poller.specs.Polls.{AddsPoll, told_of_channel};
+    ghost use Rattle.nio_poller.specs.Polls.{AddsPoll, CountsFaults, told_of_channel};
     ghost use Rattle.nio_poller.specs.declared.poller.PollError.TheVariants as failure;
     ghost use Rattle.nio_checked.specs.Checked.{ready_of};
     ghost use Rattle.nio_checked.specs.Listed.{listed};
@@ -288,7 +286,7 @@ impl<N: Net + Drop> Poller for CheckedNet<N> {
         ensures told { IfOk result (λ answer. self.new.told ≡ listed answer.pairs.items asked.now.keys) }
         ensures untold { OnErr result (self.new.told ≡ []) }
         ensures given { self.new.given ≡ 0 }
-        ensures channels { self.new.channels ≡ self.old.channels }
+        ensures numbers { self.new.numbers ≡ self.old.numbers }
         ensures failed { IsTrue self.new.failed → (result ≡ Err failure.Memory) × (self.new.net ≡ self.old.net) }
     {
         self.told.clear();

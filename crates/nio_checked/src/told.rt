@@ -50,6 +50,14 @@ pub(crate) fn is_told(told: &[(ChanNo, Ops)], chan: ChanNo, op: Ops) -> bool
         .any(|&(ready, ops)| ready.0 == chan.0 && op.within(ops))
 }
 
+/// Lists the channel as ready for nothing.
+#[tactic(auto, using(crate::proofs::Keeping::all_taken))]
+pub(crate) fn tell_nothing(told: &mut [(ChanNo, Ops)], chan: ChanNo)
+    ensures { told.new ≡ told_after chan (λ _. 0) told.old }
+{
+    untell(told, chan, Ops::of(u8::MAX));
+}
+
 /// Lists the channel as not ready for this operation.
 pub(crate) fn untell(told: &mut [(ChanNo, Ops)], chan: ChanNo, op: Ops)
     ensures { told.new ≡ told_after chan (without_op op) told.old }

@@ -9,14 +9,14 @@ use Rattle.std.proofs.lemmas.List.{map-append, append-nil}
 use Rattle.std.specs.Str.{bytes_eq}
 use Rattle.std.specs.Option.{option_to_list}
 use Rattle.nio_base.specs.declared.numbers.Addr.{Addr}
-use Rattle.nio_base.specs.declared.numbers.ChanNo.{ChanNo}
+use Rattle.nio_base.specs.declared.numbers.ChanId.{ChanId}
 use Rattle.nio_bytes.specs.Cause.{HasCause}
-use Rattle.nio_link.proofs.Channels.{all_same}
+use Rattle.nio_link.proofs.Channels.{all_same, channel_is_or_not}
 use Rattle.nio_link.specs.Links.{IsSameBut}
 use Rattle.nio_link.specs.declared.net.Failed.{Failed}
 use Rattle.nio_base.specs.Ops.{is_within}
-use Rattle.nio_serve.proofs.Working.{later_all}
 use Rattle.nio_datagram.proofs.Bits.{receive_keeps_write, send_keeps_read}
+use Rattle.nio_datagram.proofs.Counting.{later_all}
 use Rattle.nio_datagram.specs.Datagrams.{Datagram, as_fault, heard_of}
 use Rattle.nio_datagram.specs.Packets.{Packet, Traffic, after_receive, after_send, first_sender, is_stranger, bytes_of}
 use Rattle.nio_datagram.specs.Packets.{heard_from, is_same_addr}
@@ -32,20 +32,20 @@ use Rattle.nio_datagram.specs.declared.net.Came.TheVariants as came
 
 -- ---- counts that stay
 
-pub none_failed : (f : ChanNo → ℕ) (p : ℕ) → NoneFailed f f p p
+pub none_failed : (f : ChanId → ℕ) (p : ℕ) → NoneFailed f f p p
 none_failed f p = record { calls = λ c. refl; polls = refl }
 
-pub none_failed_then : (f g h : ChanNo → ℕ) (p q r : ℕ) → NoneFailed f g p q → NoneFailed g h q r → NoneFailed f h p r
+pub none_failed_then : (f g h : ChanId → ℕ) (p q r : ℕ) → NoneFailed f g p q → NoneFailed g h q r → NoneFailed f h p r
 none_failed_then f g h p q r one two = record {
   calls = λ c. two.calls c ∙ one.calls c;
   polls = two.polls ∙ one.polls;
 }
 
 -- a call that didn't fail left every count as it was
-pub call_none_failed : {T : Type 0} (made : Result T Failed) (c : ChanNo) (f g : ChanNo → ℕ) (p q : ℕ)
+pub call_none_failed : {T : Type 0} (made : Result T Failed) (c : ChanId) (f g : ChanId → ℕ) (p q : ℕ)
     → HasCause (f c) (g c) made → IsSameBut c f g → q ≡ p → OnOk made (NoneFailed f g p q)
 call_none_failed (Ok value) c f g p q cause others polls = record {
-  calls = all_same c f g cause.still others;
+  calls = all_same channel_is_or_not c f g cause.still others;
   polls = polls;
 }
 call_none_failed (Err failed) c f g p q cause others polls = tt
@@ -61,7 +61,7 @@ more_on_ok (Ok (came.Packet len from)) peer P p = heard_test (is_stranger peer f
 more_on_ok (Ok came.NotYet) peer P p = p
 more_on_ok (Err failed) peer P p = tt
 
-pub takes_none_failed : (c : ChanNo) (peer : Option Addr) (before now : Passing) (x y : PacketView)
+pub takes_none_failed : (c : ChanId) (peer : Option Addr) (before now : Passing) (x y : PacketView)
     (result : Result Heard PacketError) (more : Result Bool PacketError) → Takes c peer before now x y result
     → more ≡ more_of result → OnOk more (NoneFailed x.faults y.faults x.poll_faults y.poll_faults)
 takes_none_failed c peer before now x y result more takes is =
@@ -75,7 +75,7 @@ fault_on_ok : {T : Type 0} (made : Result T Failed) (P : Type 0) → OnOk made P
 fault_on_ok (Ok value) P p = p
 fault_on_ok (Err failed) P p = tt
 
-pub gives_none_failed : (c : ChanNo) (to : Addr) (before now : Passing) (x y : PacketView)
+pub gives_none_failed : (c : ChanId) (to : Addr) (before now : Passing) (x y : PacketView)
     (result : Result Bool PacketError) → Gives c to before now x y result
     → OnOk result (NoneFailed x.faults y.faults x.poll_faults y.poll_faults)
 gives_none_failed c to before now x y result gives =
@@ -92,29 +92,30 @@ send_came (Ok false) to bytes x = refl
 send_came (Err failed) to bytes x = refl
 
 pub gives_advances : (s t : PassState) (to : Addr) (result : Result Bool PacketError)
-    → s.source.channel ≢ s.sink.channel → Gives s.sink.channel to s.direction t.direction s.net t.net result
+    → s.source.channel.number ≢ s.sink.channel.number → Gives s.sink.channel to s.direction t.direction s.net t.net result
     → t.source ≡ s.source → t.sink ≡ s.sink → Advances s.source.channel s.sink.channel s t
-gives_advances s t to result apart gives source sink = record {
-  sink = sink;
-  source = rw source refl;
-  connected = λ peer is. ap (λ (d : Datagram). d.peer) source ∙ is;
-  first = λ is.
-      ap (λ (d : Datagram). d.peer) source ∙ is
-      ∙ ap (λ (x : Traffic). first_sender x.came) (sym (gives.net.traffic_else s.source.channel apart));
-  went = ap (λ (x : Traffic). x.went) (gives.net.traffic_else s.source.channel apart);
-  came = ap (λ (x : Traffic). x.came) gives.net.traffic
-      ∙ send_came gives.made to gives.bytes (s.net.traffic s.sink.channel);
-  traffic = λ c not_source not_sink. gives.net.traffic_else c not_sink;
-  faults = λ c not_source not_sink. gives.net.others c not_sink;
-  later = later_all s.net.faults t.net.faults s.sink.channel gives.net.cause.later gives.net.others;
-  places = gives.net.places;
-  polls = gives.net.polls;
-  writes = λ within.
-      subst (λ x. IsTrue (is_within 4 x)) (sym (gives.net.ready_else s.source.channel apart)) within;
-  reads = λ within.
-      subst (λ x. IsTrue (is_within 1 x)) (sym gives.net.ready)
-      (send_keeps_read gives.made (s.net.ready s.sink.channel) within);
-}
+gives_advances s t to result numbers gives source sink =
+    let apart : s.source.channel ≢ s.sink.channel = λ same. numbers (ap (λ (c : ChanId). c.number) same) in record {
+      sink = sink;
+      source = rw source refl;
+      connected = λ peer is. ap (λ (d : Datagram). d.peer) source ∙ is;
+      first = λ is.
+          ap (λ (d : Datagram). d.peer) source ∙ is
+          ∙ ap (λ (x : Traffic). first_sender x.came) (sym (gives.net.traffic_else s.source.channel apart));
+      went = ap (λ (x : Traffic). x.went) (gives.net.traffic_else s.source.channel apart);
+      came = ap (λ (x : Traffic). x.came) gives.net.traffic
+          ∙ send_came gives.made to gives.bytes (s.net.traffic s.sink.channel);
+      traffic = λ c not_source not_sink. gives.net.traffic_else c not_sink;
+      faults = λ c not_source not_sink. gives.net.others c not_sink;
+      later = later_all s.net.faults t.net.faults s.sink.channel gives.net.cause.later gives.net.others;
+      places = gives.net.places;
+      polls = gives.net.polls;
+      writes = λ within.
+          subst (λ x. IsTrue (is_within 4 x)) (sym (gives.net.ready_else s.source.channel.number numbers)) within;
+      reads = λ within.
+          subst (λ x. IsTrue (is_within 1 x)) (sym gives.net.ready)
+          (send_keeps_read gives.made (s.net.ready s.sink.channel.number) within);
+    }
 
 -- ---- receiving
 
@@ -157,12 +158,13 @@ peer_stays (Ok heard.Stranger) peer = refl
 peer_stays (Ok heard.NotYet) peer = refl
 peer_stays (Err error) peer = refl
 
-pub takes_advances : (s t : PassState) (result : Result Heard PacketError) → s.source.channel ≢ s.sink.channel
+pub takes_advances : (s t : PassState) (result : Result Heard PacketError)
+    → s.source.channel.number ≢ s.sink.channel.number
     → Takes s.source.channel s.source.peer s.direction t.direction s.net t.net result
     → (s.source.peer ≡ None → (s.net.traffic s.source.channel).came ≡ [])
     → t.source ≡ record s.source { peer = peer_told result s.source.peer } → t.sink ≡ s.sink → Advances s.source.channel s.sink.channel s t
-takes_advances s t result apart takes unheard source sink =
-    let other : s.sink.channel ≢ s.source.channel = λ same. apart (sym same) in
+takes_advances s t result numbers takes unheard source sink =
+    let other : s.sink.channel ≢ s.source.channel = λ same. numbers (sym (ap (λ (c : ChanId). c.number) same)) in
     let peer : t.source.peer ≡ peer_told result s.source.peer = ap (λ (d : Datagram). d.peer) source in
     record {
       sink = sink;
@@ -182,9 +184,9 @@ takes_advances s t result apart takes unheard source sink =
       polls = takes.net.polls;
       writes = λ within.
           subst (λ x. IsTrue (is_within 4 x)) (sym takes.net.ready)
-          (receive_keeps_write takes.made (s.net.ready s.source.channel) within);
+          (receive_keeps_write takes.made (s.net.ready s.source.channel.number) within);
       reads = λ within.
-          subst (λ x. IsTrue (is_within 1 x)) (sym (takes.net.ready_else s.sink.channel other)) within;
+          subst (λ x. IsTrue (is_within 1 x)) (sym (takes.net.ready_else s.sink.channel.number (λ same. numbers (sym same)))) within;
     }
 
 same_bytes : (xs : List ℕ) → bytes_eq xs xs ≡ true
@@ -258,7 +260,8 @@ pub takes_passing : (s : PassState) (net : PacketView) (result : Result Heard Pa
       net = net;
     })
 takes_passing s net result made filled passing empty told receives =
-    let other : s.sink.channel ≢ s.source.channel = λ same. passing.apart (sym same) in
+    let other : s.sink.channel ≢ s.source.channel =
+    λ same. passing.apart (sym (ap (λ (c : ChanId). c.number) same)) in
     let order : bytes_of (s.net.traffic s.sink.channel).went ++ []
     ≡ heard_by s.source.peer (s.net.traffic s.source.channel).came =
     ap (λ (o : Option (List ℕ)). bytes_of (s.net.traffic s.sink.channel).went ++ option_to_list o) (sym empty)

@@ -1,15 +1,15 @@
 -- What the rounds of a relay come to.
 use Rattle.std.proofs.Common.{ℕ, ◌≤◌, inl, inr}
 use Rattle.std.proofs.Common.{refl, ◌∙◌, arith}
-use Rattle.nio_base.specs.declared.numbers.ChanNo.{ChanNo}
-use Rattle.nio_serve.proofs.Working.{rose_from}
+use Rattle.nio_base.specs.declared.numbers.ChanId.{ChanId}
+use Rattle.nio_datagram.proofs.Counting.{rose_from}
 use Rattle.nio_datagram.specs.Nets.{PacketView}
 use Rattle.nio_datagram.specs.Relaying.{Moves}
 use Rattle.nio_datagram.specs.Serving.{client_chan, target_chan, OneRose}
 
 -- ---- counts
 
-pub one_rose_from : (f g h : ChanNo → ℕ) (p q r : ℕ) → ((c : ChanNo) → f c ≤ g c) → p ≤ q → OneRose g h q r
+pub one_rose_from : (f g h : ChanId → ℕ) (p q r : ℕ) → ((c : ChanId) → f c ≤ g c) → p ≤ q → OneRose g h q r
     → OneRose f h p r
 one_rose_from f g h p q r later polls (inl rose) = inl (rose_from p q r polls rose)
 one_rose_from f g h p q r later polls (inr (inl rose)) =

@@ -2,11 +2,11 @@
 use Rattle.std.specs.Prelude.{◌≡◌, ℕ, nat_lt, Bool, true, false, if◌then◌else◌, Option, Some, None, Result, Ok, Err}
 use Rattle.std.specs.Prelude.{List}
 use Rattle.nio_base.specs.declared.numbers.Addr.{Addr}
-use Rattle.nio_base.specs.declared.numbers.ChanNo.{ChanNo}
+use Rattle.nio_base.specs.declared.numbers.ChanId.{ChanId}
 use Rattle.nio_link.specs.declared.net.Failed.{Failed}
 use Rattle.nio_datagram.specs.Nets.{PacketView, Binds, Receives, Sends, Closes}
 use Rattle.nio_datagram.specs.Packets.{is_stranger}
-use Rattle.nio_datagram.specs.Places.{IsBound, IsVacant}
+use Rattle.nio_datagram.specs.Places.{IsBound, IsFree, IsVacant}
 use Rattle.nio_datagram.specs.declared.link.DatagramState.{DatagramState}
 use Rattle.nio_datagram.specs.declared.link.DatagramState.TheVariants.{Unbound, Bound, Closed}
 use Rattle.nio_datagram.specs.declared.link.Heard.{Heard}
@@ -17,19 +17,18 @@ use Rattle.nio_datagram.specs.declared.link.PacketError.TheVariants.{NotYetBound
 use Rattle.nio_datagram.specs.declared.net.Came.{Came}
 use Rattle.nio_datagram.specs.declared.net.Came.TheVariants as came
 use Rattle.nio_datagram.specs.declared.net.Place.{Place}
-use Rattle.nio_datagram.specs.declared.net.Place.TheVariants as place_is
 
 pub record Datagram : Type 0 where
-  pub channel : ChanNo
+  pub channel : ChanId
   pub state : DatagramState
   -- to whom it is connected
   pub peer : Option Addr
 
 -- what stands under its channel
-abbrev pub StandsAs : DatagramState → Place → Type 0
-StandsAs Unbound place = place ≡ place_is.Unbound
-StandsAs Bound place = IsBound place
-StandsAs Closed place = IsVacant place
+abbrev pub StandsAs : DatagramState → (ChanId → Place) → ChanId → Type 0
+StandsAs Unbound place c = IsFree place c
+StandsAs Bound place c = IsBound (place c)
+StandsAs Closed place c = IsVacant (place c)
 
 -- ---- the refusal of each call, where the state or the argument refuses it
 

@@ -3,6 +3,7 @@ pub mod Places
 pub mod Readiness
 pub mod Nets
 pub mod Datagrams
+pub mod Sockets
 pub mod Sides
 pub mod MemoryPackets
 pub mod Passing

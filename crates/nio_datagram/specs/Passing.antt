@@ -4,7 +4,7 @@ use Rattle.std.specs.Prelude.{Result, Ok, Err, List, [], ◌++◌, length, take}
 use Rattle.std.specs.List.{All}
 use Rattle.std.specs.Option.{option_to_list}
 use Rattle.nio_base.specs.declared.numbers.Addr.{Addr}
-use Rattle.nio_base.specs.declared.numbers.ChanNo.{ChanNo}
+use Rattle.nio_base.specs.declared.numbers.ChanId.{ChanId}
 use Rattle.nio_link.specs.declared.net.Failed.{Failed}
 use Rattle.nio_base.specs.Ops.{is_within}
 use Rattle.nio_datagram.specs.Datagrams.{Datagram, heard_of, as_fault}
@@ -48,7 +48,7 @@ held_after (Ok heard.NotYet) filled before = before
 held_after (Err error) filled before = before
 
 -- a packet was looked for on channel c
-pub record Takes (c : ChanNo) (peer : Option Addr) (before now : Passing) (old new : PacketView)
+pub record Takes (c : ChanId) (peer : Option Addr) (before now : Passing) (old new : PacketView)
     (result : Result Heard PacketError) : Type 0 where
   pub made : Result Came Failed
   pub filled : List ℕ
@@ -80,7 +80,7 @@ after_give (Ok false) d = d
 after_give (Err error) d = d
 
 -- the packet that it held was to be sent on channel c
-pub record Gives (c : ChanNo) (to : Addr) (before now : Passing) (old new : PacketView)
+pub record Gives (c : ChanId) (to : Addr) (before now : Passing) (old new : PacketView)
     (result : Result Bool PacketError) : Type 0 where
   pub made : Result Bool Failed
   pub bytes : List ℕ
@@ -97,11 +97,11 @@ pub record PassState : Type 0 where
   pub direction : Passing
   pub net : PacketView
 
--- both links are bound, and what came is passed on
+-- both links are bound, under two numbers, and what came is passed on
 pub record IsPassing (s : PassState) : Type 0 where
   pub source : s.source.state ≡ state.Bound
   pub sink : s.sink.state ≡ state.Bound
-  pub apart : s.source.channel ≢ s.sink.channel
+  pub apart : s.source.channel.number ≢ s.sink.channel.number
   pub source_stands : IsBound (s.net.place s.source.channel)
   pub sink_stands : IsBound (s.net.place s.sink.channel)
   pub passes : PassesOn s.source.peer s.sink.peer (s.net.traffic s.source.channel).came
@@ -110,7 +110,7 @@ pub record IsPassing (s : PassState) : Type 0 where
 -- From one state to a later one only the source, on channel a, has received, and only the sink, on channel b, has sent.
 -- The source may have come to be connected to the sender of the first packet. The source's readiness for writing and
 -- the sink's for reading stay.
-pub record Advances (a b : ChanNo) (s t : PassState) : Type 0 where
+pub record Advances (a b : ChanId) (s t : PassState) : Type 0 where
   pub sink : t.sink ≡ s.sink
   pub source : t.source ≡ record s.source { peer = t.source.peer }
   pub connected : (peer : Addr) → s.source.peer ≡ Some peer → t.source.peer ≡ Some peer
@@ -118,15 +118,15 @@ pub record Advances (a b : ChanNo) (s t : PassState) : Type 0 where
       → t.source.peer ≡ first_sender (t.net.traffic a).came
   pub went : (t.net.traffic a).went ≡ (s.net.traffic a).went
   pub came : (t.net.traffic b).came ≡ (s.net.traffic b).came
-  pub traffic : (c : ChanNo) → c ≢ a → c ≢ b → t.net.traffic c ≡ s.net.traffic c
-  pub faults : (c : ChanNo) → c ≢ a → c ≢ b → t.net.faults c ≡ s.net.faults c
-  pub later : (c : ChanNo) → s.net.faults c ≤ t.net.faults c
-  pub places : (c : ChanNo) → t.net.place c ≡ s.net.place c
+  pub traffic : (c : ChanId) → c ≢ a → c ≢ b → t.net.traffic c ≡ s.net.traffic c
+  pub faults : (c : ChanId) → c ≢ a → c ≢ b → t.net.faults c ≡ s.net.faults c
+  pub later : (c : ChanId) → s.net.faults c ≤ t.net.faults c
+  pub places : (c : ChanId) → t.net.place c ≡ s.net.place c
   pub polls : t.net.poll_faults ≡ s.net.poll_faults
-  pub writes : IsTrue (is_within 4 (s.net.ready a)) → IsTrue (is_within 4 (t.net.ready a))
-  pub reads : IsTrue (is_within 1 (s.net.ready b)) → IsTrue (is_within 1 (t.net.ready b))
+  pub writes : IsTrue (is_within 4 (s.net.ready a.number)) → IsTrue (is_within 4 (t.net.ready a.number))
+  pub reads : IsTrue (is_within 1 (s.net.ready b.number)) → IsTrue (is_within 1 (t.net.ready b.number))
 
 -- what is known of a direction's readiness: for reading from the source, and for writing to the sink
 pub record IsKnown (r : Readiness) (s : PassState) : Type 0 where
-  pub read : IsTrue r.read → IsTrue (is_within 1 (s.net.ready s.source.channel))
-  pub write : IsTrue r.write → IsTrue (is_within 4 (s.net.ready s.sink.channel))
+  pub read : IsTrue r.read → IsTrue (is_within 1 (s.net.ready s.source.channel.number))
+  pub write : IsTrue r.write → IsTrue (is_within 4 (s.net.ready s.sink.channel.number))

@@ -1,7 +1,7 @@
 -- A relay of packets at work.
 use Rattle.std.specs.Prelude.{◌≡◌, ◌≢◌, ◌-◌, ◌^◌, ◌≤◌, min, None, IsSome, length}
 use Rattle.nio_base.specs.declared.numbers.Addr.{Addr}
-use Rattle.nio_base.specs.declared.numbers.ChanNo.{ChanNo}
+use Rattle.nio_base.specs.declared.numbers.ChanId.{ChanId}
 use Rattle.nio_datagram.specs.Nets.{PacketView}
 use Rattle.nio_datagram.specs.Packets.{first_sender}
 use Rattle.nio_datagram.specs.Passing.{IsPassing}
@@ -25,16 +25,16 @@ pub record IsRelaying (r : Relay) (net : PacketView) : Type 0 where
 
 -- From one state of the net to a later one only the two channels have received and sent. What stands is the same.
 pub record Moves (x y : PacketView) : Type 0 where
-  pub traffic : (c : ChanNo) → c ≢ client_chan → c ≢ target_chan → y.traffic c ≡ x.traffic c
-  pub faults : (c : ChanNo) → c ≢ client_chan → c ≢ target_chan → y.faults c ≡ x.faults c
-  pub later : (c : ChanNo) → x.faults c ≤ y.faults c
-  pub places : (c : ChanNo) → y.place c ≡ x.place c
+  pub traffic : (c : ChanId) → c ≢ client_chan → c ≢ target_chan → y.traffic c ≡ x.traffic c
+  pub faults : (c : ChanId) → c ≢ client_chan → c ≢ target_chan → y.faults c ≡ x.faults c
+  pub later : (c : ChanId) → x.faults c ≤ y.faults c
+  pub places : (c : ChanId) → y.place c ≡ x.place c
   pub polls : x.poll_faults ≤ y.poll_faults
 
 -- ---- its beginning and its end
 
 -- neither bound nor connected, and nothing passed on
-abbrev pub relay_between : ChanNo → ChanNo → Relay
+abbrev pub relay_between : ChanId → ChanId → Relay
 relay_between a b = record {
   client = record { channel = a; state = state.Unbound; peer = None };
   target = record { channel = b; state = state.Unbound; peer = None };
@@ -55,24 +55,24 @@ IsAsked wanted (Closed at) = ⊥
 pub record IsPlaced (plan : PacketPlan) (r : Relay) (y : PacketView) : Type 0 where
   pub client_is : r.client.channel ≡ client_chan
   pub target_is : r.target.channel ≡ target_chan
-  pub client_stands : StandsAs r.client.state (y.place client_chan)
-  pub target_stands : StandsAs r.target.state (y.place target_chan)
+  pub client_stands : StandsAs r.client.state y.place client_chan
+  pub target_stands : StandsAs r.target.state y.place target_chan
   pub client_asked : IsAsked plan.listen (y.place client_chan)
   pub target_asked : IsAsked plan.local (y.place target_chan)
 
 -- From one state of the net to a later one only the two channels have received, sent, failed or were bound.
 pub record Works (x y : PacketView) : Type 0 where
-  pub traffic : (c : ChanNo) → c ≢ client_chan → c ≢ target_chan → y.traffic c ≡ x.traffic c
-  pub faults : (c : ChanNo) → c ≢ client_chan → c ≢ target_chan → y.faults c ≡ x.faults c
-  pub later : (c : ChanNo) → x.faults c ≤ y.faults c
-  pub places : (c : ChanNo) → c ≢ client_chan → c ≢ target_chan → y.place c ≡ x.place c
+  pub traffic : (c : ChanId) → c ≢ client_chan → c ≢ target_chan → y.traffic c ≡ x.traffic c
+  pub faults : (c : ChanId) → c ≢ client_chan → c ≢ target_chan → y.faults c ≡ x.faults c
+  pub later : (c : ChanId) → x.faults c ≤ y.faults c
+  pub places : (c : ChanId) → c ≢ client_chan → c ≢ target_chan → y.place c ≡ x.place c
   pub polls : x.poll_faults ≤ y.poll_faults
 
 -- the sockets were bound, or one of them couldn't be
 pub record Opens (plan : PacketPlan) (r : Relay) (x y : PacketView) : Type 0 where
   pub placed : IsPlaced plan r y
   pub works : Works x y
-  pub carried : (c : ChanNo) → y.traffic c ≡ x.traffic c
+  pub carried : (c : ChanId) → y.traffic c ≡ x.traffic c
   pub sent : r.forth.sent ≡ 0
 
 -- both are bound as the plan says
@@ -95,9 +95,9 @@ pub record Ran (plan : PacketPlan) (r : Relay) (x y : PacketView) : Type 0 where
 
 -- both sockets were closed
 pub record Quits (x y : PacketView) : Type 0 where
-  pub traffic : (c : ChanNo) → y.traffic c ≡ x.traffic c
-  pub faults : (c : ChanNo) → y.faults c ≡ x.faults c
-  pub places : (c : ChanNo) → c ≢ client_chan → c ≢ target_chan → y.place c ≡ x.place c
+  pub traffic : (c : ChanId) → y.traffic c ≡ x.traffic c
+  pub faults : (c : ChanId) → y.faults c ≡ x.faults c
+  pub places : (c : ChanId) → c ≢ client_chan → c ≢ target_chan → y.place c ≡ x.place c
   pub client_place : y.place client_chan ≡ place_after_close (x.place client_chan)
   pub target_place : y.place target_chan ≡ place_after_close (x.place target_chan)
   pub polls : y.poll_faults ≡ x.poll_faults

@@ -3,11 +3,10 @@ ghost use Rattle.std.specs.Prelude.{◌≡◌, ◌+◌, ◌<◌, ◌≤◌, ◌�
 ghost use Rattle.std.specs.Prelude.{Some, is_some};
 ghost use Rattle.nio_bytes.specs.Cause.{Rose};
 ghost use Rattle.nio_base.specs.Ops.{is_within};
-ghost use Rattle.nio_datagram.specs.Nets.{view_by, NoneFailed};
+ghost use Rattle.nio_datagram.specs.Nets.{view_of, MayReceive, MaySend, NoneFailed};
 ghost use Rattle.nio_datagram.specs.Packets.{is_stranger};
 ghost use Rattle.nio_datagram.specs.Passing.{Takes, Gives, IsKnown, IsPassing, Advances, peer_after, peer_told};
 ghost use Rattle.nio_datagram.specs.Passing.{more_of};
-ghost use Rattle.nio_datagram.specs.Places.{IsBound};
 ghost use Rattle.nio_datagram.specs.declared.link.DatagramState.TheVariants as state;
 
 use crate::link::{DatagramLink, Heard, PacketError};
@@ -97,12 +96,11 @@ impl Direction {
     ) -> Result<Heard, PacketError>
         requires empty { self.old.held ≡ None }
         requires bound { source.old.state ≡ state.Bound }
-        requires ready { IsTrue (is_within 1 (N.ready net.old source.old.channel)) }
-        requires stands { IsBound (N.place net.old source.old.channel) }
+        requires may { MayReceive source.old.channel (view_of N.PacketNet net.old) }
         ensures link { source.new ≡ source.old }
         ensures takes { Takes source.old.channel source.old.peer self.old self.new
-            (view_by N.traffic N.packet_faults N.place N.ready N.poll_faults net.old)
-            (view_by N.traffic N.packet_faults N.place N.ready N.poll_faults net.new) result }
+            (view_of N.PacketNet net.old)
+            (view_of N.PacketNet net.new) result }
     {
         let heard = source.receive(net, &mut self.buffer);
         if let Ok(Heard::Packet { len, from: _ }) = &heard {
@@ -121,12 +119,11 @@ impl Direction {
         requires held { IsSome self.old.held }
         requires peer { sink.old.peer ≡ Some to }
         requires bound { sink.old.state ≡ state.Bound }
-        requires ready { IsTrue (is_within 4 (N.ready net.old sink.old.channel)) }
-        requires stands { IsBound (N.place net.old sink.old.channel) }
+        requires may { MaySend sink.old.channel (view_of N.PacketNet net.old) }
         ensures link { sink.new ≡ sink.old }
         ensures gives { Gives sink.old.channel to self.old self.new
-            (view_by N.traffic N.packet_faults N.place N.ready N.poll_faults net.old)
-            (view_by N.traffic N.packet_faults N.place N.ready N.poll_faults net.new) result }
+            (view_of N.PacketNet net.old)
+            (view_of N.PacketNet net.new) result }
     {
         let Some(len) = self.held else { unreachable!() };
         let sent = sink.send(net, &self.buffer[..len], to);
@@ -147,35 +144,35 @@ fn take<N: PacketNet>(
     sink: &mut DatagramLink,
 ) -> Result<bool, PacketError>
     requires empty { direction.old.held ≡ None }
-    requires ready { IsTrue (is_within 1 (N.ready net.old source.old.channel)) }
+    requires ready { IsTrue (is_within 1 (N.ready net.old source.old.channel.number)) }
     requires passing { IsPassing (record {
       source = source.old;
       sink = sink.old;
       direction = direction.old;
-      net = view_by N.traffic N.packet_faults N.place N.ready N.poll_faults net.old;
+      net = view_of N.PacketNet net.old;
     }) }
     ensures passing { IsPassing (record {
       source = source.new;
       sink = sink.new;
       direction = direction.new;
-      net = view_by N.traffic N.packet_faults N.place N.ready N.poll_faults net.new;
+      net = view_of N.PacketNet net.new;
     }) }
     ensures advances { Advances source.old.channel sink.old.channel
         (record {
           source = source.old;
           sink = sink.old;
           direction = direction.old;
-          net = view_by N.traffic N.packet_faults N.place N.ready N.poll_faults net.old;
+          net = view_of N.PacketNet net.old;
         })
         (record {
           source = source.new;
           sink = sink.new;
           direction = direction.new;
-          net = view_by N.traffic N.packet_faults N.place N.ready N.poll_faults net.new;
+          net = view_of N.PacketNet net.new;
         }) }
     ensures sent { direction.new.sent ≡ direction.old.sent }
-    ensures more { IfOk result (λ more. IsTrue more → IsTrue (is_within 1 (N.ready net.new source.old.channel))) }
-    ensures sink_ready { N.ready net.new sink.old.channel ≡ N.ready net.old sink.old.channel }
+    ensures more { IfOk result (λ more. IsTrue more → IsTrue (is_within 1 (N.ready net.new source.old.channel.number))) }
+    ensures sink_ready { N.ready net.new sink.old.channel.number ≡ N.ready net.old sink.old.channel.number }
     ensures still { OnOk result (NoneFailed (N.packet_faults net.old) (N.packet_faults net.new)
         (N.poll_faults net.old) (N.poll_faults net.new)) }
     ensures cause { IsErr result → Rose (N.packet_faults net.old source.old.channel)
@@ -226,36 +223,36 @@ fn give<N: PacketNet>(
 ) -> Result<bool, PacketError>
     requires held { IsSome direction.old.held }
     requires peer { sink.old.peer ≡ Some to }
-    requires ready { IsTrue (is_within 4 (N.ready net.old sink.old.channel)) }
+    requires ready { IsTrue (is_within 4 (N.ready net.old sink.old.channel.number)) }
     requires passing { IsPassing (record {
       source = source.old;
       sink = sink.old;
       direction = direction.old;
-      net = view_by N.traffic N.packet_faults N.place N.ready N.poll_faults net.old;
+      net = view_of N.PacketNet net.old;
     }) }
     ensures passing { IsPassing (record {
       source = source.new;
       sink = sink.new;
       direction = direction.new;
-      net = view_by N.traffic N.packet_faults N.place N.ready N.poll_faults net.new;
+      net = view_of N.PacketNet net.new;
     }) }
     ensures advances { Advances source.old.channel sink.old.channel
         (record {
           source = source.old;
           sink = sink.old;
           direction = direction.old;
-          net = view_by N.traffic N.packet_faults N.place N.ready N.poll_faults net.old;
+          net = view_of N.PacketNet net.old;
         })
         (record {
           source = source.new;
           sink = sink.new;
           direction = direction.new;
-          net = view_by N.traffic N.packet_faults N.place N.ready N.poll_faults net.new;
+          net = view_of N.PacketNet net.new;
         }) }
     ensures source { source.new ≡ source.old }
     ensures sent { direction.new.sent ≤ direction.old.sent + 1 }
-    ensures more { IfOk result (λ more. IsTrue more → IsTrue (is_within 4 (N.ready net.new sink.old.channel))) }
-    ensures source_ready { N.ready net.new source.old.channel ≡ N.ready net.old source.old.channel }
+    ensures more { IfOk result (λ more. IsTrue more → IsTrue (is_within 4 (N.ready net.new sink.old.channel.number))) }
+    ensures source_ready { N.ready net.new source.old.channel.number ≡ N.ready net.old source.old.channel.number }
     ensures still { OnOk result (NoneFailed (N.packet_faults net.old) (N.packet_faults net.new)
         (N.poll_faults net.old) (N.poll_faults net.new)) }
     ensures cause { IsErr result → Rose (N.packet_faults net.old sink.old.channel)
@@ -277,32 +274,32 @@ fn step<N: PacketNet>(
       source = source.old;
       sink = sink.old;
       direction = direction.old;
-      net = view_by N.traffic N.packet_faults N.place N.ready N.poll_faults net.old;
+      net = view_of N.PacketNet net.old;
     }) }
     requires passing { IsPassing (record {
       source = source.old;
       sink = sink.old;
       direction = direction.old;
-      net = view_by N.traffic N.packet_faults N.place N.ready N.poll_faults net.old;
+      net = view_of N.PacketNet net.old;
     }) }
     ensures passing { IsPassing (record {
       source = source.new;
       sink = sink.new;
       direction = direction.new;
-      net = view_by N.traffic N.packet_faults N.place N.ready N.poll_faults net.new;
+      net = view_of N.PacketNet net.new;
     }) }
     ensures advances { Advances source.old.channel sink.old.channel
         (record {
           source = source.old;
           sink = sink.old;
           direction = direction.old;
-          net = view_by N.traffic N.packet_faults N.place N.ready N.poll_faults net.old;
+          net = view_of N.PacketNet net.old;
         })
         (record {
           source = source.new;
           sink = sink.new;
           direction = direction.new;
-          net = view_by N.traffic N.packet_faults N.place N.ready N.poll_faults net.new;
+          net = view_of N.PacketNet net.new;
         }) }
     ensures sent { direction.new.sent ≤ direction.old.sent + 1 }
     ensures known { IfOk result (λ next. IfSome next (λ r. IsKnown r
@@ -310,7 +307,7 @@ fn step<N: PacketNet>(
           source = source.new;
           sink = sink.new;
           direction = direction.new;
-          net = view_by N.traffic N.packet_faults N.place N.ready N.poll_faults net.new;
+          net = view_of N.PacketNet net.new;
         }))) }
     ensures still { OnOk result (NoneFailed (N.packet_faults net.old) (N.packet_faults net.new)
         (N.poll_faults net.old) (N.poll_faults net.new)) }
@@ -348,32 +345,32 @@ fn read_step<N: PacketNet>(
       source = source.old;
       sink = sink.old;
       direction = direction.old;
-      net = view_by N.traffic N.packet_faults N.place N.ready N.poll_faults net.old;
+      net = view_of N.PacketNet net.old;
     }) }
     requires passing { IsPassing (record {
       source = source.old;
       sink = sink.old;
       direction = direction.old;
-      net = view_by N.traffic N.packet_faults N.place N.ready N.poll_faults net.old;
+      net = view_of N.PacketNet net.old;
     }) }
     ensures passing { IsPassing (record {
       source = source.new;
       sink = sink.new;
       direction = direction.new;
-      net = view_by N.traffic N.packet_faults N.place N.ready N.poll_faults net.new;
+      net = view_of N.PacketNet net.new;
     }) }
     ensures advances { Advances source.old.channel sink.old.channel
         (record {
           source = source.old;
           sink = sink.old;
           direction = direction.old;
-          net = view_by N.traffic N.packet_faults N.place N.ready N.poll_faults net.old;
+          net = view_of N.PacketNet net.old;
         })
         (record {
           source = source.new;
           sink = sink.new;
           direction = direction.new;
-          net = view_by N.traffic N.packet_faults N.place N.ready N.poll_faults net.new;
+          net = view_of N.PacketNet net.new;
         }) }
     ensures sent { direction.new.sent ≡ direction.old.sent }
     ensures known { IfOk result (λ next. IfSome next (λ r. IsKnown r
@@ -381,7 +378,7 @@ fn read_step<N: PacketNet>(
           source = source.new;
           sink = sink.new;
           direction = direction.new;
-          net = view_by N.traffic N.packet_faults N.place N.ready N.poll_faults net.new;
+          net = view_of N.PacketNet net.new;
         }))) }
     ensures still { OnOk result (NoneFailed (N.packet_faults net.old) (N.packet_faults net.new)
         (N.poll_faults net.old) (N.poll_faults net.new)) }
@@ -413,32 +410,32 @@ pub(crate) fn pass<N: PacketNet>(
       source = source.old;
       sink = sink.old;
       direction = direction.old;
-      net = view_by N.traffic N.packet_faults N.place N.ready N.poll_faults net.old;
+      net = view_of N.PacketNet net.old;
     }) }
     requires passing { IsPassing (record {
       source = source.old;
       sink = sink.old;
       direction = direction.old;
-      net = view_by N.traffic N.packet_faults N.place N.ready N.poll_faults net.old;
+      net = view_of N.PacketNet net.old;
     }) }
     ensures passing { IsPassing (record {
       source = source.new;
       sink = sink.new;
       direction = direction.new;
-      net = view_by N.traffic N.packet_faults N.place N.ready N.poll_faults net.new;
+      net = view_of N.PacketNet net.new;
     }) }
     ensures advances { Advances source.old.channel sink.old.channel
         (record {
           source = source.old;
           sink = sink.old;
           direction = direction.old;
-          net = view_by N.traffic N.packet_faults N.place N.ready N.poll_faults net.old;
+          net = view_of N.PacketNet net.old;
         })
         (record {
           source = source.new;
           sink = sink.new;
           direction = direction.new;
-          net = view_by N.traffic N.packet_faults N.place N.ready N.poll_faults net.new;
+          net = view_of N.PacketNet net.new;
         }) }
     ensures limit { direction.old.sent < limit → direction.new.sent ≤ limit }
     ensures still { OnOk result (NoneFailed (N.packet_faults net.old) (N.packet_faults net.new)

@@ -2,8 +2,9 @@
 #![tactic(auto)]
 
 pub use link::{DatagramLink, DatagramState, Heard, PacketError};
-pub use memory::{MemoryPackets, SendFailure, SentPacket};
+pub use memory::{BindFailure, MemoryPackets, SendFailure};
 pub use net::{Came, LONGEST, PacketNet, Place};
+pub use packet::{SentPacket, log_packet};
 pub use serving::{PacketServeError, PacketsServed, serve_packets};
 
 /// A call on a channel of a net of packets failed.
@@ -14,6 +15,7 @@ mod direction;
 mod link;
 mod memory;
 mod net;
+mod packet;
 mod relay;
 mod serving;
 mod watching;

@@ -1,9 +1,9 @@
 //! A datagram channel that keeps whether it is bound and to whom it is connected, and refuses the calls that its state
 //! doesn't allow.
-ghost use Rattle.std.specs.Prelude.{◌≡◌, ◌≤◌, IsTrue, None, length};
-ghost use Rattle.nio_base.specs.Ops.{is_within};
+ghost use Rattle.std.specs.Prelude.{◌≡◌, ◌≤◌, None, length};
 ghost use Rattle.nio_datagram.specs.Packets.{is_stranger};
-ghost use Rattle.nio_datagram.specs.Nets.{view_by};
+ghost use Rattle.nio_datagram.specs.Nets.{view_of, MayReceive, MaySend};
+ghost use Rattle.nio_datagram.specs.Places.{IsFree};
 ghost use Rattle.nio_datagram.specs.Datagrams.{StandsAs, as_fault, heard_of, bind_refusal, connect_refusal};
 ghost use Rattle.nio_datagram.specs.Datagrams.{disconnect_refusal, receive_refusal, send_refusal, state_after_bind};
 ghost use Rattle.nio_datagram.specs.Datagrams.{BindClause, ConnectClause, DisconnectClause, ReceiveClause};
@@ -12,7 +12,7 @@ ghost use Rattle.nio_datagram.specs.declared.link.DatagramState.TheVariants as s
 
 use crate::address::is_same_addr;
 use crate::net::{Came, LONGEST, PacketNet};
-use nio_base::{Addr, ChanNo};
+use nio_base::{Addr, ChanId};
 use nio_link::Failed;
 use std::marker::Model;
 use thiserror::Error;
@@ -68,12 +68,12 @@ pub enum Heard {
     NotYet,
 }
 
-/// A datagram channel of a net. Its calls look at its state first: what that refuses doesn't reach the net. What stands
-/// under its channel is what its state says, as long as no other calls are made there. To whom it is connected isn't
-/// told the net. Dropping it leaves its socket bound.
+/// A datagram channel of a net. Its calls look at its state first: what that refuses doesn't reach the net, and asks
+/// nothing of what stands under its channel. That is what its state says, as long as no other calls are made there. To
+/// whom it is connected isn't told the net. Dropping it leaves its socket bound.
 #[derive(Drop)]
 pub struct DatagramLink {
-    chan: ChanNo,
+    chan: ChanId,
     state: DatagramState,
     peer: Option<Addr>,
 }
@@ -88,7 +88,7 @@ impl Model for DatagramLink {
 
 impl DatagramLink {
     /// A datagram channel that is neither bound nor connected.
-    pub fn make(chan: ChanNo) -> DatagramLink
+    pub fn make(chan: ChanId) -> DatagramLink
         ensures { result ≡ record { channel = chan; state = state.Unbound; peer = None } }
     {
         DatagramLink {
@@ -107,10 +107,11 @@ impl DatagramLink {
 
     /// Binds the channel to this address. Where that fails it is as before.
     pub fn bind<N: PacketNet>(&mut self, net: &mut N, at: Addr) -> Result<(), PacketError>
-        requires { StandsAs self.old.state (N.place net.old self.old.channel) }
-        ensures bind { BindClause (view_by N.traffic N.packet_faults N.place N.ready N.poll_faults)
+        requires { self.old.state ≡ state.Unbound → IsFree (N.place net.old) self.old.channel }
+        ensures bind { BindClause (view_of N.PacketNet)
             (bind_refusal self.old.state) at self.old self.new net.old net.new result }
-        ensures stands { StandsAs self.new.state (N.place net.new self.new.channel) }
+        ensures stands { StandsAs self.old.state (N.place net.old) self.old.channel
+            → StandsAs self.new.state (N.place net.new) self.new.channel }
     {
         match self.state {
             DatagramState::Unbound => {
@@ -156,11 +157,11 @@ impl DatagramLink {
         into: &mut [u8],
     ) -> Result<Heard, PacketError>
         requires room { self.old.state ≡ state.Bound → LONGEST ≤ length into.old }
-        requires ready { self.old.state ≡ state.Bound → IsTrue (is_within 1 (N.ready net.old self.old.channel)) }
-        requires stands { StandsAs self.old.state (N.place net.old self.old.channel) }
-        ensures receive { ReceiveClause (view_by N.traffic N.packet_faults N.place N.ready N.poll_faults)
+        requires may { self.old.state ≡ state.Bound → MayReceive self.old.channel (view_of N.PacketNet net.old) }
+        ensures receive { ReceiveClause (view_of N.PacketNet)
             (receive_refusal self.old.state) self.old self.new net.old net.new into.old into.new result }
-        ensures stands { StandsAs self.new.state (N.place net.new self.new.channel) }
+        ensures stands { StandsAs self.old.state (N.place net.old) self.old.channel
+            → StandsAs self.new.state (N.place net.new) self.new.channel }
     {
         match self.state {
             DatagramState::Unbound => Err(PacketError::NotYetBound),
@@ -176,12 +177,12 @@ impl DatagramLink {
         bytes: &[u8],
         to: Addr,
     ) -> Result<bool, PacketError>
-        requires ready { send_refusal self.old (length bytes.now) to ≡ None
-            → IsTrue (is_within 4 (N.ready net.old self.old.channel)) }
-        requires stands { StandsAs self.old.state (N.place net.old self.old.channel) }
-        ensures send { SendClause (view_by N.traffic N.packet_faults N.place N.ready N.poll_faults)
+        requires { send_refusal self.old (length bytes.now) to ≡ None
+            → MaySend self.old.channel (view_of N.PacketNet net.old) }
+        ensures send { SendClause (view_of N.PacketNet)
             (send_refusal self.old (length bytes.now) to) to self.old self.new net.old net.new bytes.now result }
-        ensures stands { StandsAs self.new.state (N.place net.new self.new.channel) }
+        ensures stands { StandsAs self.old.state (N.place net.old) self.old.channel
+            → StandsAs self.new.state (N.place net.new) self.new.channel }
     {
         match self.state {
             DatagramState::Unbound => Err(PacketError::NotYetBound),
@@ -200,10 +201,10 @@ impl DatagramLink {
 
     /// Closes the channel. False where it was closed before.
     pub fn close<N: PacketNet>(&mut self, net: &mut N) -> bool
-        requires { StandsAs self.old.state (N.place net.old self.old.channel) }
-        ensures close { CloseClause (view_by N.traffic N.packet_faults N.place N.ready N.poll_faults)
+        ensures close { CloseClause (view_of N.PacketNet)
             self.old.state self.old self.new net.old net.new result }
-        ensures stands { StandsAs self.new.state (N.place net.new self.new.channel) }
+        ensures stands { StandsAs self.old.state (N.place net.old) self.old.channel
+            → StandsAs self.new.state (N.place net.new) self.new.channel }
     {
         if self.state == DatagramState::Closed {
             return false;

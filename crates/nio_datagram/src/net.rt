@@ -1,13 +1,10 @@
 //! What carries packets.
-ghost use Rattle.std.specs.Prelude.{◌≡◌, ◌≤◌, IfOk, IsTrue, length};
-ghost use Rattle.nio_bytes.specs.Cause.{HasCause};
-ghost use Rattle.nio_link.specs.Links.{IsSameBut};
-ghost use Rattle.nio_base.specs.Ops.{is_within};
-ghost use Rattle.nio_datagram.specs.Packets.{Traffic, IsCame, after_receive, after_send};
-ghost use Rattle.nio_datagram.specs.Places.{IsBound, place_after_bind, place_after_close};
-ghost use Rattle.nio_datagram.specs.Readiness.{ready_after_receive, ready_after_send};
+ghost use Rattle.std.specs.Prelude.{◌≡◌, ◌≤◌, length};
+ghost use Rattle.nio_datagram.specs.Nets.{view_of, MayReceive, MaySend, Binds, Receives, Sends, Stays, Closes};
+ghost use Rattle.nio_datagram.specs.Packets.{Traffic};
+ghost use Rattle.nio_datagram.specs.Places.{IsFree};
 
-use nio_base::{Addr, ChanNo};
+use nio_base::{Addr, ChanId};
 use nio_link::Failed;
 use nio_poller::Poller;
 
@@ -40,94 +37,58 @@ pub enum Place {
 }
 
 /// Sockets that send and receive packets, and a poller that says what they are ready for. Each is named by the channel
-/// under which it was bound. A call may be made only where its channel's place allows it, and one that needs readiness
-/// where the last poll told it and no call since has found otherwise: so a call that fails does so for what the net
-/// finds.
+/// under which it was bound: a number and a serial. A number serves again, under a later serial, once its socket was
+/// closed. A call may be made only where its channel's place allows it, and one that needs readiness where the last poll
+/// told it of the channel's number and no call since has found otherwise, or bound or closed a socket there: so a call
+/// that fails does so for what the net finds.
 pub trait PacketNet: Poller {
     ghost use Rattle.std.specs.Prelude.{ℕ};
-    ghost use Rattle.nio_base.specs.declared.numbers.ChanNo.{ChanNo};
+    ghost use Rattle.nio_base.specs.declared.numbers.ChanId.{ChanId};
     ghost use Rattle.nio_datagram.specs.declared.net.Place.{Place};
-    ghost use Rattle.nio_datagram.specs.declared.net.Place.TheVariants as place_is;
 
     // The packets that a channel has received and sent.
-    ghost traffic: { Self → ChanNo → Traffic };
+    ghost traffic: { Self → ChanId → Traffic };
 
     // How often a call on a channel has failed.
-    ghost packet_faults: { Self → ChanNo → ℕ };
+    ghost packet_faults: { Self → ChanId → ℕ };
 
     // What stands under a channel.
-    ghost place: { Self → ChanNo → Place };
+    ghost place: { Self → ChanId → Place };
 
-    /// Binds a socket to this address, under this channel. Where it fails, nothing was made.
-    fn bind_packets(&mut self, chan: ChanNo, at: Addr) -> Result<(), Failed>
-        requires unbound { place self.old chan ≡ place_is.Unbound }
-        ensures cause { HasCause (packet_faults self.old chan) (packet_faults self.new chan) result }
-        ensures others { IsSameBut chan (packet_faults self.old) (packet_faults self.new) }
-        ensures traffic { (c : ChanNo) → traffic self.new c ≡ traffic self.old c }
-        ensures ready { (c : ChanNo) → Self.ready self.new c ≡ Self.ready self.old c }
-        ensures place { place self.new chan ≡ place_after_bind result at }
-        ensures places { IsSameBut chan (place self.old) (place self.new) }
-        ensures polls { Self.poll_faults self.new ≡ Self.poll_faults self.old }
-        ensures shown { Self.polls self.new ≡ Self.polls self.old };
+    /// Binds a socket to this address, under this channel. Where it fails, nothing was made, and the channel can be
+    /// asked again.
+    fn bind_packets(&mut self, chan: ChanId, at: Addr) -> Result<(), Failed>
+        requires { IsFree (place self.old) chan }
+        ensures { Binds chan at (view_of Self.PacketNet self.old) (view_of Self.PacketNet self.new) result };
 
     /// Takes the next packet that has come to a channel. Its bytes are put at the front of the buffer, which has room
     /// for each packet; what lies behind them may change.
-    fn receive(&mut self, chan: ChanNo, into: &mut [u8]) -> Result<Came, Failed>
+    fn receive(&mut self, chan: ChanId, into: &mut [u8]) -> Result<Came, Failed>
         requires room { LONGEST ≤ length into.old }
-        requires ready { IsTrue (is_within 1 (Self.ready self.old chan)) }
-        requires bound { IsBound (place self.old chan) }
-        ensures cause { HasCause (packet_faults self.old chan) (packet_faults self.new chan) result }
-        ensures others { IsSameBut chan (packet_faults self.old) (packet_faults self.new) }
-        ensures came { IfOk result IsCame }
-        ensures traffic { traffic self.new chan ≡ after_receive result into.new (traffic self.old chan) }
-        ensures traffic_else { IsSameBut chan (traffic self.old) (traffic self.new) }
-        ensures ready { Self.ready self.new chan ≡ ready_after_receive result (Self.ready self.old chan) }
-        ensures ready_else { IsSameBut chan (Self.ready self.old) (Self.ready self.new) }
-        ensures places { (c : ChanNo) → place self.new c ≡ place self.old c }
-        ensures polls { Self.poll_faults self.new ≡ Self.poll_faults self.old }
-        ensures shown { Self.polls self.new ≡ Self.polls self.old };
+        requires may { MayReceive chan (view_of Self.PacketNet self.old) }
+        ensures { Receives chan (view_of Self.PacketNet self.old) (view_of Self.PacketNet self.new) into.new result };
 
     /// Sends a packet with these bytes. True where it was taken, whole; false where there is no room yet.
-    fn send(&mut self, chan: ChanNo, bytes: &[u8], to: Addr) -> Result<bool, Failed>
+    fn send(&mut self, chan: ChanId, bytes: &[u8], to: Addr) -> Result<bool, Failed>
         requires fits { length bytes.now ≤ LONGEST }
-        requires ready { IsTrue (is_within 4 (Self.ready self.old chan)) }
-        requires bound { IsBound (place self.old chan) }
-        ensures cause { HasCause (packet_faults self.old chan) (packet_faults self.new chan) result }
-        ensures others { IsSameBut chan (packet_faults self.old) (packet_faults self.new) }
-        ensures traffic { traffic self.new chan ≡ after_send result to bytes.now (traffic self.old chan) }
-        ensures traffic_else { IsSameBut chan (traffic self.old) (traffic self.new) }
-        ensures ready { Self.ready self.new chan ≡ ready_after_send result (Self.ready self.old chan) }
-        ensures ready_else { IsSameBut chan (Self.ready self.old) (Self.ready self.new) }
-        ensures places { (c : ChanNo) → place self.new c ≡ place self.old c }
-        ensures polls { Self.poll_faults self.new ≡ Self.poll_faults self.old }
-        ensures shown { Self.polls self.new ≡ Self.polls self.old };
+        requires may { MaySend chan (view_of Self.PacketNet self.old) }
+        ensures { Sends chan to (view_of Self.PacketNet self.old) (view_of Self.PacketNet self.new) bytes.now result };
 
     /// The system's `connect` of the channel's socket. It is there for what the system does with a connected socket: it
     /// finds the route once and not for each send, drops packets from other addresses, and reports that the address
     /// refuses packets, so that a later call on the channel fails. Nothing that the net shows changes, whether the
     /// system connects the socket or refuses to: a link drops strangers' packets itself.
-    fn connect_packets(&mut self, chan: ChanNo, to: Addr)
-        ensures faults { (c : ChanNo) → packet_faults self.new c ≡ packet_faults self.old c }
-        ensures traffic { (c : ChanNo) → traffic self.new c ≡ traffic self.old c }
-        ensures ready { (c : ChanNo) → Self.ready self.new c ≡ Self.ready self.old c }
-        ensures places { (c : ChanNo) → place self.new c ≡ place self.old c }
-        ensures polls { Self.poll_faults self.new ≡ Self.poll_faults self.old }
-        ensures shown { Self.polls self.new ≡ Self.polls self.old };
+    fn connect_packets(&mut self, chan: ChanId, to: Addr)
+        ensures { Stays (view_of Self.PacketNet self.old) (view_of Self.PacketNet self.new) };
 
     /// Closes the socket of a channel, where one is bound there. Its packets are shown as before.
-    fn close_packets(&mut self, chan: ChanNo)
-        ensures faults { (c : ChanNo) → packet_faults self.new c ≡ packet_faults self.old c }
-        ensures traffic { (c : ChanNo) → traffic self.new c ≡ traffic self.old c }
-        ensures ready { (c : ChanNo) → Self.ready self.new c ≡ Self.ready self.old c }
-        ensures place { place self.new chan ≡ place_after_close (place self.old chan) }
-        ensures places { IsSameBut chan (place self.old) (place self.new) }
-        ensures polls { Self.poll_faults self.new ≡ Self.poll_faults self.old }
-        ensures shown { Self.polls self.new ≡ Self.polls self.old };
+    fn close_packets(&mut self, chan: ChanId)
+        ensures { Closes chan (view_of Self.PacketNet self.old) (view_of Self.PacketNet self.new) };
 
     // Polls carry no packets, count no faults of channels, and leave what stands.
-    ghost kept_traffic: { (x y : Self) → Self.kept x y → (c : ChanNo) → traffic y c ≡ traffic x c };
+    ghost kept_traffic: { (x y : Self) → Self.kept x y → (c : ChanId) → traffic y c ≡ traffic x c };
 
-    ghost kept_faults: { (x y : Self) → Self.kept x y → (c : ChanNo) → packet_faults y c ≡ packet_faults x c };
+    ghost kept_faults: { (x y : Self) → Self.kept x y → (c : ChanId) → packet_faults y c ≡ packet_faults x c };
 
-    ghost kept_places: { (x y : Self) → Self.kept x y → (c : ChanNo) → place y c ≡ place x c };
+    ghost kept_places: { (x y : Self) → Self.kept x y → (c : ChanId) → place y c ≡ place x c };
 }

@@ -2,18 +2,18 @@
 ghost use Rattle.std.specs.Prelude.{◌≡◌, ℕ, ◌<◌, ◌≤◌, ◌⊎◌, IfOk, IsErr, IsTrue, OnOk, Some};
 ghost use Rattle.nio_bytes.specs.Cause.{Rose};
 ghost use Rattle.nio_base.specs.Ops.{is_within};
-ghost use Rattle.nio_datagram.specs.Nets.{view_by, NoneFailed};
+ghost use Rattle.nio_datagram.specs.Nets.{view_of, NoneFailed};
 ghost use Rattle.nio_datagram.specs.Relaying.{fresh_relay, relay_between, AreBound, IsRelaying, Moves, Opens, Quits};
 ghost use Rattle.nio_datagram.specs.Packets.{no_traffic};
 ghost use Rattle.nio_datagram.specs.Datagrams.{StandsAs};
 ghost use Rattle.nio_datagram.specs.Serving.{client_chan, target_chan};
-ghost use Rattle.nio_datagram.specs.declared.net.Place.TheVariants as place_is;
+ghost use Rattle.nio_datagram.specs.Places.{IsFree};
 
 use crate::direction::{Direction, Readiness, pass};
 use crate::link::{DatagramLink, PacketError};
 use crate::net::PacketNet;
 use crate::serving::TARGET;
-use nio_base::{ChanNo, Ops};
+use nio_base::{ChanId, Ops};
 use nio_relay::PacketPlan;
 use std::alloc::{AllocError, Global};
 
@@ -46,7 +46,7 @@ fn known(source: Ops, sink: Ops) -> Readiness
 
 impl Relay {
     /// A relay between these channels that has passed on nothing.
-    pub(crate) fn make(alloc: Global, client: ChanNo, target: ChanNo) -> Result<Relay, AllocError>
+    pub(crate) fn make(alloc: Global, client: ChanId, target: ChanId) -> Result<Relay, AllocError>
         ensures { IfOk result (λ relay. relay ≡ relay_between client target) }
     {
         Ok(Relay {
@@ -66,15 +66,15 @@ impl Relay {
         requires fresh { self.old ≡ fresh_relay }
         requires client_unused { N.traffic net.old client_chan ≡ no_traffic }
         requires target_unused { N.traffic net.old target_chan ≡ no_traffic }
-        requires client_unbound { N.place net.old client_chan ≡ place_is.Unbound }
-        requires target_unbound { N.place net.old target_chan ≡ place_is.Unbound }
-        ensures opens { Opens plan self.new (view_by N.traffic N.packet_faults N.place N.ready N.poll_faults net.old)
-            (view_by N.traffic N.packet_faults N.place N.ready N.poll_faults net.new) }
+        requires client_free { IsFree (N.place net.old) client_chan }
+        requires target_free { IsFree (N.place net.old) target_chan }
+        ensures opens { Opens plan self.new (view_of N.PacketNet net.old)
+            (view_of N.PacketNet net.new) }
         ensures relaying { OnOk result (IsRelaying self.new
-            (view_by N.traffic N.packet_faults N.place N.ready N.poll_faults net.new)) }
+            (view_of N.PacketNet net.new)) }
         ensures target { OnOk result (self.new.target.peer ≡ Some plan.target) }
         ensures bound { OnOk result (AreBound plan
-            (view_by N.traffic N.packet_faults N.place N.ready N.poll_faults net.new)) }
+            (view_of N.PacketNet net.new)) }
         ensures still { OnOk result (NoneFailed (N.packet_faults net.old) (N.packet_faults net.new)
             (N.poll_faults net.old) (N.poll_faults net.new)) }
         ensures cause { IsErr result → Rose (N.packet_faults net.old client_chan) (N.packet_faults net.new client_chan)
@@ -91,10 +91,10 @@ impl Relay {
     pub(crate) fn close<N: PacketNet>(&mut self, net: &mut N)
         requires client_is { self.old.client.channel ≡ client_chan }
         requires target_is { self.old.target.channel ≡ target_chan }
-        requires client_stands { StandsAs self.old.client.state (N.place net.old client_chan) }
-        requires target_stands { StandsAs self.old.target.state (N.place net.old target_chan) }
-        ensures quits { Quits (view_by N.traffic N.packet_faults N.place N.ready N.poll_faults net.old)
-            (view_by N.traffic N.packet_faults N.place N.ready N.poll_faults net.new) }
+        requires client_stands { StandsAs self.old.client.state (N.place net.old) client_chan }
+        requires target_stands { StandsAs self.old.target.state (N.place net.old) target_chan }
+        ensures quits { Quits (view_of N.PacketNet net.old)
+            (view_of N.PacketNet net.new) }
         ensures forth { self.new.forth ≡ self.old.forth }
         ensures back { self.new.back ≡ self.old.back }
     {
@@ -121,15 +121,15 @@ impl Relay {
         at_target: Ops,
         count: u32,
     ) -> Result<(), PacketError>
-        requires ready_client { IsTrue (is_within at_client (N.ready net.old client_chan)) }
-        requires ready_target { IsTrue (is_within at_target (N.ready net.old target_chan)) }
+        requires ready_client { IsTrue (is_within at_client (N.ready net.old client_chan.number)) }
+        requires ready_target { IsTrue (is_within at_target (N.ready net.old target_chan.number)) }
         requires relaying { IsRelaying self.old
-            (view_by N.traffic N.packet_faults N.place N.ready N.poll_faults net.old) }
+            (view_of N.PacketNet net.old) }
         ensures relaying { IsRelaying self.new
-            (view_by N.traffic N.packet_faults N.place N.ready N.poll_faults net.new) }
+            (view_of N.PacketNet net.new) }
         ensures target { self.new.target.peer ≡ self.old.target.peer }
-        ensures moves { Moves (view_by N.traffic N.packet_faults N.place N.ready N.poll_faults net.old)
-            (view_by N.traffic N.packet_faults N.place N.ready N.poll_faults net.new) }
+        ensures moves { Moves (view_of N.PacketNet net.old)
+            (view_of N.PacketNet net.new) }
         ensures count { self.old.forth.sent < count → self.new.forth.sent ≤ count }
         ensures still { OnOk result (NoneFailed (N.packet_faults net.old) (N.packet_faults net.new)
             (N.poll_faults net.old) (N.poll_faults net.new)) }

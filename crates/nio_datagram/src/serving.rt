@@ -4,23 +4,23 @@ ghost use Rattle.nio_bytes.specs.Cause.{Rose};
 ghost use Rattle.nio_poller.specs.Polls.{told_of_channel};
 ghost use Rattle.nio_base.specs.Ops.{is_within};
 ghost use Rattle.nio_words.specs.Passes.{IsFirstPass};
-ghost use Rattle.nio_datagram.specs.Nets.{view_by, NoneFailed};
+ghost use Rattle.nio_datagram.specs.Nets.{view_of, NoneFailed};
 ghost use Rattle.nio_datagram.specs.Packets.{no_traffic};
+ghost use Rattle.nio_datagram.specs.Places.{IsFree};
 ghost use Rattle.nio_datagram.specs.Relaying.{fresh_relay, IsDone, IsRelaying, Moves, Ran};
 ghost use Rattle.nio_datagram.specs.Serving.{client_chan, target_chan, LeavesNothing, NoneRose};
 ghost use Rattle.nio_relay.specs.Plan.{IsRelayable};
 ghost use Rattle.nio_datagram.specs.Serving.{OneRose, RelaysPackets, Serves, ServesAllOr};
-ghost use Rattle.nio_datagram.specs.declared.net.Place.TheVariants as place_is;
 ghost use Rattle.nio_datagram.specs.declared.serving.PacketServeError.TheVariants.{NetFault};
 
 use crate::net::PacketNet;
 use crate::relay::{BothOps, Relay};
 use crate::watching::{Watched, set, told_of, watch};
-use nio_base::{Addr, CallerNo, ChanNo, Limits, Ops};
+use nio_base::{Addr, CallerNo, ChanId, ChanNo, Limits, Ops};
+use nio_board::{Board, Refused};
 use nio_poller::PollError;
 use nio_relay::PacketPlan;
 use nio_select::{Asked, Selecting, Told};
-use nio_serve::{Board, Refused};
 use nio_words::{Pass, Words};
 use std::alloc::{AllocError, Global};
 use std::sync::Wait;
@@ -56,11 +56,17 @@ const LIMITS: Limits = Limits {
 /// The caller that makes the calls.
 const ME: CallerNo = CallerNo(0);
 
-/// The channel to which the client sends.
-const CLIENT: ChanNo = ChanNo(0);
+/// The channel to which the client sends: the first of the number 0.
+const CLIENT: ChanId = ChanId {
+    number: ChanNo(0),
+    serial: 0,
+};
 
-/// The channel to which the target answers.
-pub(crate) const TARGET: ChanNo = ChanNo(1);
+/// The channel to which the target answers: the first of the number 1.
+pub(crate) const TARGET: ChanId = ChanId {
+    number: ChanNo(1),
+    serial: 0,
+};
 
 /// What a relay serves by: a board on which both of its channels are watched.
 #[derive(Drop)]
@@ -72,7 +78,7 @@ struct Server<'a> {
 
 impl<'a> Server<'a> {
     // The first caller of a new table opens a board and both channels there. The limits have room for all of it.
-    #[tactic(auto, using(nio_serve::proofs::Idle::drawn_unpinned, nio_serve::proofs::Calls::drawn_is_unregistered))]
+    #[tactic(auto, using(nio_board::proofs::Idle::drawn_unpinned, nio_board::proofs::Calls::drawn_is_unregistered))]
     fn open<R: Wait>(
         rt: &R,
         alloc: Global,
@@ -86,8 +92,8 @@ impl<'a> Server<'a> {
             return Err(Refused);
         }
         let mut board = Board::open(alloc, words, pass, ME)?;
-        let client = watch(&mut board, rt, CLIENT)?;
-        let target = watch(&mut board, rt, TARGET)?;
+        let client = watch(&mut board, rt, CLIENT.number)?;
+        let target = watch(&mut board, rt, TARGET.number)?;
         Ok(Server {
             board,
             client,
@@ -114,13 +120,13 @@ impl<'a> Server<'a> {
         count: u32,
     ) -> Result<(), PacketServeError>
         requires relaying { IsRelaying relay.old
-            (view_by N.traffic N.packet_faults N.place N.ready N.poll_faults net.old) }
+            (view_of N.PacketNet net.old) }
         requires count { relay.old.forth.sent < count }
         ensures relaying { IsRelaying relay.new
-            (view_by N.traffic N.packet_faults N.place N.ready N.poll_faults net.new) }
+            (view_of N.PacketNet net.new) }
         ensures target { relay.new.target.peer ≡ relay.old.target.peer }
-        ensures moves { Moves (view_by N.traffic N.packet_faults N.place N.ready N.poll_faults net.old)
-            (view_by N.traffic N.packet_faults N.place N.ready N.poll_faults net.new) }
+        ensures moves { Moves (view_of N.PacketNet net.old)
+            (view_of N.PacketNet net.new) }
         ensures count { relay.new.forth.sent ≤ count }
         ensures still { OnOk result (NoneFailed (N.packet_faults net.old) (N.packet_faults net.new)
             (N.poll_faults net.old) (N.poll_faults net.new)) }
@@ -159,12 +165,12 @@ impl<'a> Server<'a> {
         requires fresh { relay.old ≡ fresh_relay }
         requires client_unused { N.traffic net.old client_chan ≡ no_traffic }
         requires target_unused { N.traffic net.old target_chan ≡ no_traffic }
-        requires client_unbound { N.place net.old client_chan ≡ place_is.Unbound }
-        requires target_unbound { N.place net.old target_chan ≡ place_is.Unbound }
-        ensures ran { Ran plan relay.new (view_by N.traffic N.packet_faults N.place N.ready N.poll_faults net.old)
-            (view_by N.traffic N.packet_faults N.place N.ready N.poll_faults net.new) }
+        requires client_free { IsFree (N.place net.old) client_chan }
+        requires target_free { IsFree (N.place net.old) target_chan }
+        ensures ran { Ran plan relay.new (view_of N.PacketNet net.old)
+            (view_of N.PacketNet net.new) }
         ensures done { OnOk result (IsDone plan relay.new
-            (view_by N.traffic N.packet_faults N.place N.ready N.poll_faults net.new)) }
+            (view_of N.PacketNet net.new)) }
         ensures still { OnOk result (NoneFailed (N.packet_faults net.old) (N.packet_faults net.new)
             (N.poll_faults net.old) (N.poll_faults net.new)) }
         ensures cause { result ≡ Err NetFault → OneRose (N.packet_faults net.old) (N.packet_faults net.new)
@@ -186,13 +192,13 @@ impl<'a> Server<'a> {
         count: u32,
     ) -> Result<(), PacketServeError>
         requires relaying { IsRelaying relay.old
-            (view_by N.traffic N.packet_faults N.place N.ready N.poll_faults net.old) }
+            (view_of N.PacketNet net.old) }
         requires count { relay.old.forth.sent ≤ count }
         ensures relaying { IsRelaying relay.new
-            (view_by N.traffic N.packet_faults N.place N.ready N.poll_faults net.new) }
+            (view_of N.PacketNet net.new) }
         ensures target { relay.new.target.peer ≡ relay.old.target.peer }
-        ensures moves { Moves (view_by N.traffic N.packet_faults N.place N.ready N.poll_faults net.old)
-            (view_by N.traffic N.packet_faults N.place N.ready N.poll_faults net.new) }
+        ensures moves { Moves (view_of N.PacketNet net.old)
+            (view_of N.PacketNet net.new) }
         ensures all { OnOk result (relay.new.forth.sent ≡ count) }
         ensures still { OnOk result (NoneFailed (N.packet_faults net.old) (N.packet_faults net.new)
             (N.poll_faults net.old) (N.poll_faults net.new)) }
@@ -224,13 +230,13 @@ fn poll_on<R: Wait, N: PacketNet>(
     count: u32,
 ) -> Result<Told, PacketServeError>
     requires relaying { IsRelaying relay.old
-        (view_by N.traffic N.packet_faults N.place N.ready N.poll_faults net.old) }
+        (view_of N.PacketNet net.old) }
     requires count { relay.old.forth.sent < count }
     ensures relaying { IsRelaying relay.new
-        (view_by N.traffic N.packet_faults N.place N.ready N.poll_faults net.new) }
+        (view_of N.PacketNet net.new) }
     ensures target { relay.new.target.peer ≡ relay.old.target.peer }
-    ensures moves { Moves (view_by N.traffic N.packet_faults N.place N.ready N.poll_faults net.old)
-        (view_by N.traffic N.packet_faults N.place N.ready N.poll_faults net.new) }
+    ensures moves { Moves (view_of N.PacketNet net.old)
+        (view_of N.PacketNet net.new) }
     ensures count { relay.new.forth.sent ≤ count }
     ensures still { OnOk result (NoneFailed (N.packet_faults net.old) (N.packet_faults net.new)
         (N.poll_faults net.old) (N.poll_faults net.new)) }
@@ -257,12 +263,12 @@ fn round<R: Wait, N: PacketNet>(
     count: u32,
 ) -> Result<Told, PacketServeError>
     requires relaying { IsRelaying relay.old
-        (view_by N.traffic N.packet_faults N.place N.ready N.poll_faults net.old) }
+        (view_of N.PacketNet net.old) }
     ensures relaying { IsRelaying relay.new
-        (view_by N.traffic N.packet_faults N.place N.ready N.poll_faults net.new) }
+        (view_of N.PacketNet net.new) }
     ensures target { relay.new.target.peer ≡ relay.old.target.peer }
-    ensures moves { Moves (view_by N.traffic N.packet_faults N.place N.ready N.poll_faults net.old)
-        (view_by N.traffic N.packet_faults N.place N.ready N.poll_faults net.new) }
+    ensures moves { Moves (view_of N.PacketNet net.old)
+        (view_of N.PacketNet net.new) }
     ensures count { relay.old.forth.sent < count → relay.new.forth.sent ≤ count }
     ensures still { OnOk result (NoneFailed (N.packet_faults net.old) (N.packet_faults net.new)
         (N.poll_faults net.old) (N.poll_faults net.new)) }
@@ -281,12 +287,12 @@ fn round<R: Wait, N: PacketNet>(
 
 // What a poll told of both channels, which may be more than they are watched for.
 fn ready_of(asked: &Asked, told: &Told) -> BothOps
-    ensures client { result.client ≡ told_of_channel asked.now.keys told.now.pairs.items client_chan }
-    ensures target { result.target ≡ told_of_channel asked.now.keys told.now.pairs.items target_chan }
+    ensures client { result.client ≡ told_of_channel asked.now.keys told.now.pairs.items client_chan.number }
+    ensures target { result.target ≡ told_of_channel asked.now.keys told.now.pairs.items target_chan.number }
 {
     BothOps {
-        client: told_of(asked, told, CLIENT),
-        target: told_of(asked, told, TARGET),
+        client: told_of(asked, told, CLIENT.number),
+        target: told_of(asked, told, TARGET.number),
     }
 }
 
@@ -297,15 +303,15 @@ fn pass_ready<N: PacketNet>(
     ready: BothOps,
     count: u32,
 ) -> Result<(), PacketServeError>
-    requires ready_client { IsTrue (is_within ready.client (N.ready net.old client_chan)) }
-    requires ready_target { IsTrue (is_within ready.target (N.ready net.old target_chan)) }
+    requires ready_client { IsTrue (is_within ready.client (N.ready net.old client_chan.number)) }
+    requires ready_target { IsTrue (is_within ready.target (N.ready net.old target_chan.number)) }
     requires relaying { IsRelaying relay.old
-        (view_by N.traffic N.packet_faults N.place N.ready N.poll_faults net.old) }
+        (view_of N.PacketNet net.old) }
     ensures relaying { IsRelaying relay.new
-        (view_by N.traffic N.packet_faults N.place N.ready N.poll_faults net.new) }
+        (view_of N.PacketNet net.new) }
     ensures target { relay.new.target.peer ≡ relay.old.target.peer }
-    ensures moves { Moves (view_by N.traffic N.packet_faults N.place N.ready N.poll_faults net.old)
-        (view_by N.traffic N.packet_faults N.place N.ready N.poll_faults net.new) }
+    ensures moves { Moves (view_of N.PacketNet net.old)
+        (view_of N.PacketNet net.new) }
     ensures count { relay.old.forth.sent < count → relay.new.forth.sent ≤ count }
     ensures still { OnOk result (NoneFailed (N.packet_faults net.old) (N.packet_faults net.new)
         (N.poll_faults net.old) (N.poll_faults net.new)) }
@@ -319,8 +325,8 @@ fn pass_ready<N: PacketNet>(
     }
 }
 
-/// Relays packets between a client and a target, until `plan.count` packets of the client were sent on. Binds channel 0
-/// to `plan.listen` and channel 1 to `plan.local`. Sends to the target from channel 1. The client is the sender of the
+/// Relays packets between a client and a target, until `plan.count` packets of the client were sent on. Binds the first
+/// channel of number 0 to `plan.listen` and that of number 1 to `plan.local`. Sends to the target from the latter. The client is the sender of the
 /// first packet; others' packets are dropped. Each direction holds at most one packet. At every end both sockets are
 /// closed. `Memory` is also answered where the relay's own table refuses a call.
 pub fn serve_packets<R: Wait, N: PacketNet>(
@@ -332,8 +338,8 @@ pub fn serve_packets<R: Wait, N: PacketNet>(
     requires plan { IsRelayable plan }
     requires client_unused { N.traffic net.old client_chan ≡ no_traffic }
     requires target_unused { N.traffic net.old target_chan ≡ no_traffic }
-    requires client_unbound { N.place net.old client_chan ≡ place_is.Unbound }
-    requires target_unbound { N.place net.old target_chan ≡ place_is.Unbound }
+    requires client_free { IsFree (N.place net.old) client_chan }
+    requires target_free { IsFree (N.place net.old) target_chan }
     ensures relays { RelaysPackets plan.target (N.traffic net.new) }
     ensures serves { Serves plan (N.traffic net.new) (N.place net.new) (N.packet_faults net.old)
         (N.packet_faults net.new) (N.poll_faults net.old) (N.poll_faults net.new) result }

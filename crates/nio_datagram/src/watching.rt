@@ -4,8 +4,8 @@ ghost use Rattle.nio_poller.specs.Polls.{told_of_channel};
 ghost use Rattle.nio_steps.specs.SelectCalls.{told_at};
 
 use nio_base::{ChanNo, Kind, Ops};
+use nio_board::{Board, Port, Refused};
 use nio_select::{Asked, Told};
-use nio_serve::{Board, Port, Refused};
 use std::sync::Wait;
 
 /// A channel that is watched, and for what.

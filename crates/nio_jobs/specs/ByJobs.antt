@@ -11,7 +11,7 @@ exchange_of way = way.exchange
 -- call was made.
 pub record IsNew {E : Type 0} (exchange : E) (channels flight : ℕ) (way : ByJobs E) : Type 0 where
   pub exchanges : exchange_of way ≡ exchange
-  pub jobs : way.jobs ≡ replicate channels no_jobs
+  pub jobs : way.jobs ≡ replicate channels (no_jobs 0)
   pub unreported : way.done.items ≡ []
   pub arrived : way.arrived.items ≡ []
   pub fresh : way.fresh.items ≡ []

@@ -20,7 +20,8 @@ use Rattle.nio_jobs.specs.declared.starter.Starter.{Ghosts}
 
 -- ---- what calls came to
 
--- What a report does. The channel is the first one there with the number of the net's; it is closed if it was made.
+-- What a report does. The channel is the one there with the number and the serial of the net's; it is closed if it was
+-- made.
 abbrev pub after_done : {S : Type 0} → Ghosts S → S → Done → S
 after_done n s (done.Outcome op outcome) = n.after s (run.report op outcome)
 after_done n s (done.Again chan kind) = s

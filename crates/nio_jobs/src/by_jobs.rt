@@ -1,13 +1,13 @@
 //! The way that makes each call on the net for a job.
-ghost use Rattle.std.specs.Prelude.{◌≡◌, ◌+◌, ◌<◌, ◌≤◌, [], ◌∷◌, ◌++◌, All, IfOk, IfSome, max, min, vec_capacity};
+ghost use Rattle.std.specs.Prelude.{◌≡◌, ◌+◌, ◌<◌, ◌≤◌, [], ◌∷◌, ◌++◌, IfOk, IfSome, max, min, vec_capacity};
 ghost use Rattle.std.specs.Prelude.{vec_len};
 ghost use Rattle.nio_link.specs.Jobs.{of_net};
-ghost use Rattle.nio_jobs.specs.Jobs.{IsOfFirst};
 ghost use Rattle.nio_jobs.specs.Reports.{done_of_made, done_of_read, done_of_written};
 
 use crate::exchange::{Done, Exchange};
-use crate::jobs::Jobs;
-use nio_base::{Addr, ChanNo, OpKind, OpNo, Ops, Outcome};
+use crate::jobs::{Jobs, net_channel};
+use nio_base::{Addr, ChanId, OpKind, OpNo, Ops, Outcome};
+use nio_board::Polls;
 use nio_group::Job;
 use nio_history::Mode;
 use nio_link::{Failed, Got, JobNet, Net, Put};
@@ -18,7 +18,7 @@ use std::alloc::{AllocError, Global};
 use std::sync::Wait;
 
 /// Makes each call that accepts, connects, reads or writes for a job of its kind and channel, and uses that up. While
-/// there is none, such a call is "not yet", and the net isn't called. What calls came to is reported to those who hand
+/// there is none, such a call is held back. What calls came to is reported to those who hand
 /// out the jobs: all at once as the next round begins, or, if they take it then, where a call lacks its job.
 #[derive(Drop)]
 pub struct ByJobs<E> {
@@ -31,8 +31,7 @@ pub struct ByJobs<E> {
     // jobs that were just handed out; empty between calls
     fresh: Vec<Job>,
     // the link from which the last read of this round took all that had come
-    emptied: Option<ChanNo>,
-    ghost of_first: { All IsOfFirst arrived.items },
+    emptied: Option<ChanId>,
 }
 
 impl<E: Drop> ByJobs<E> {
@@ -81,7 +80,7 @@ impl<E: Drop> ByJobs<E> {
 impl<E: Exchange + Drop> ByJobs<E> {
     // The job of this kind for this channel, if there is one, and if there is room to note what its call comes to.
     // Where there is none, it may be handed out for what is reported now.
-    fn take(&mut self, chan: ChanNo, kind: OpKind) -> Option<Job>
+    fn take(&mut self, chan: ChanId, kind: OpKind) -> Option<Job>
         ensures kind { IfSome result (λ job. job.kind ≡ kind) }
         ensures its { IfSome result (λ job. job.chan ≡ of_net chan) }
     {
@@ -96,7 +95,7 @@ impl<E: Exchange + Drop> ByJobs<E> {
     }
 
     // Reports what calls came to within a round, where that is taken: a job of this kind for this channel is wanted.
-    fn report_early(&mut self, chan: ChanNo, kind: OpKind) {
+    fn report_early(&mut self, chan: ChanId, kind: OpKind) {
         if self.done.is_empty() {
             return;
         }
@@ -106,22 +105,18 @@ impl<E: Exchange + Drop> ByJobs<E> {
     }
 
     // Takes in the jobs that were just handed out; one of this kind for this channel is wanted now.
-    fn take_in_all(&mut self, wanted: Option<(ChanNo, OpKind)>) {
+    fn take_in_all(&mut self, wanted: Option<(ChanId, OpKind)>) {
         for _ in 0..self.fresh.len() {
             if let Some(job) = self.fresh.pop() {
-                let is_wanted = wanted == Some((ChanNo(job.chan().number), job.kind()));
+                let is_wanted = wanted == Some((net_channel(job.chan()), job.kind()));
                 self.take_in(job, is_wanted);
             }
         }
     }
 
     // Takes in a job that was just handed out. The proxy may use it at once if it wants that now, or if it watches for
-    // that anyway (`permits`). Else the next round says that it came. The job of a channel whose number came back is
-    // dropped: the net has no link for it.
+    // that anyway (`permits`). Else the next round says that it came.
     fn take_in(&mut self, job: Job, is_wanted: bool) {
-        if job.chan().serial != 0 {
-            return;
-        }
         let is_watched = self.exchange.is_prompt() && self.jobs.had_like(&job);
         if is_wanted || is_watched {
             self.jobs.put(job);
@@ -135,7 +130,7 @@ impl<E: Exchange + Drop> ByJobs<E> {
 // What is to be reported of a call that makes a link, and that has this outcome where the link is made.
 fn done_of_made(
     op: OpNo,
-    chan: ChanNo,
+    chan: ChanId,
     kind: OpKind,
     outcome: Outcome,
     made: Result<bool, Failed>,
@@ -149,7 +144,7 @@ fn done_of_made(
     }
 }
 
-fn done_of_read(op: OpNo, chan: ChanNo, got: Result<Got, Failed>) -> Done
+fn done_of_read(op: OpNo, chan: ChanId, got: Result<Got, Failed>) -> Done
     ensures { result ≡ done_of_read op chan got }
 {
     match got {
@@ -160,7 +155,7 @@ fn done_of_read(op: OpNo, chan: ChanNo, got: Result<Got, Failed>) -> Done
     }
 }
 
-fn done_of_written(op: OpNo, chan: ChanNo, put: Result<Put, Failed>) -> Done
+fn done_of_written(op: OpNo, chan: ChanId, put: Result<Put, Failed>) -> Done
     ensures { result ≡ done_of_written op chan put }
 {
     match put {
@@ -199,44 +194,14 @@ fn part(job: &Job, len: usize) -> usize
     }
 }
 
-impl<N: Net, E: Exchange + Drop> Way<JobNet<N>> for ByJobs<E> {
+impl<N: Net, E: Exchange + Drop> Polls<JobNet<N>> for ByJobs<E> {
     ghost poll_faults = { N.poll_faults };
 
     ghost ready = { N.ready };
 
+    ghost polls = { N.polls };
+
     ghost kept = { N.kept };
-
-    ghost link = { N.link };
-
-    ghost faults = { N.faults };
-
-    ghost place = { N.place };
-
-    ghost accepted = { N.accepted };
-
-    // A channel is watched for what there is a job for. Where jobs come as soon as what calls came to is reported, it is
-    // watched for what there has been one for: from the first one on there is one whenever the proxy wants it, or there
-    // will be then.
-    fn permits(&self, chan: ChanNo) -> Ops {
-        if self.exchange.is_prompt() {
-            self.jobs.had(chan)
-        } else {
-            self.jobs.present(chan)
-        }
-    }
-
-    fn permitted(&mut self) -> Option<ChanNo> {
-        let job = self.arrived.pop()?;
-        let chan = ChanNo(job.chan().number);
-        self.jobs.put(job);
-        Some(chan)
-    }
-
-    fn begin_round<R: Wait>(&mut self, rt: &R) {
-        self.exchange.exchange(rt, &mut self.done, &mut self.fresh);
-        self.take_in_all(None);
-        self.emptied = None;
-    }
 
     fn poll<R: Wait>(
         &mut self,
@@ -255,30 +220,64 @@ impl<N: Net, E: Exchange + Drop> Way<JobNet<N>> for ByJobs<E> {
         told
     }
 
-    fn listen(&mut self, net: &mut JobNet<N>, chan: ChanNo, at: Addr) -> Result<(), Failed> {
+    ghost kept_same = { N.kept_same };
+}
+
+impl<N: Net, E: Exchange + Drop> Way<JobNet<N>> for ByJobs<E> {
+    ghost link = { N.link };
+
+    ghost faults = { N.faults };
+
+    ghost place = { N.place };
+
+    ghost accepted = { N.accepted };
+
+    // A channel is watched for what there is a job for. Where jobs come as soon as what calls came to is reported, it is
+    // watched for what there has been one for: from the first one on there is one whenever the proxy wants it, or there
+    // will be then.
+    fn permits(&self, chan: ChanId) -> Ops {
+        if self.exchange.is_prompt() {
+            self.jobs.had(chan)
+        } else {
+            self.jobs.present(chan)
+        }
+    }
+
+    fn permitted(&mut self) -> Option<ChanId> {
+        let job = self.arrived.pop()?;
+        let chan = net_channel(job.chan());
+        self.jobs.put(job);
+        Some(chan)
+    }
+
+    fn begin_round<R: Wait>(&mut self, rt: &R) {
+        self.exchange.exchange(rt, &mut self.done, &mut self.fresh);
+        self.take_in_all(None);
+        self.emptied = None;
+    }
+
+    fn listen(&mut self, net: &mut JobNet<N>, chan: ChanId, at: Addr) -> Result<(), Failed> {
         net.listen(chan, at)
     }
 
     fn accept(
         &mut self,
         net: &mut JobNet<N>,
-        listener: ChanNo,
-        chan: ChanNo,
-    ) -> Result<bool, Failed> {
-        let Some(job) = self.take(listener, OpKind::Accept) else {
-            return Ok(false);
-        };
+        listener: ChanId,
+        chan: ChanId,
+    ) -> Option<Result<bool, Failed>> {
+        let job = self.take(listener, OpKind::Accept)?;
         let op = job.op();
         let accepted = net.try_accept(job, listener, chan);
         let done = done_of_made(op, listener, OpKind::Accept, Outcome::Accepted, accepted);
         self.note(done);
-        accepted
+        Some(accepted)
     }
 
     fn connect(
         &mut self,
         net: &mut JobNet<N>,
-        chan: ChanNo,
+        chan: ChanId,
         to: Addr,
     ) -> Option<Result<bool, Failed>> {
         let job = self.take(chan, OpKind::Connect)?;
@@ -289,24 +288,29 @@ impl<N: Net, E: Exchange + Drop> Way<JobNet<N>> for ByJobs<E> {
         Some(made)
     }
 
-    fn finish_connect(&mut self, net: &mut JobNet<N>, chan: ChanNo) -> Result<bool, Failed> {
-        let Some(job) = self.take(chan, OpKind::Connect) else {
-            return Ok(false);
-        };
+    fn finish_connect(
+        &mut self,
+        net: &mut JobNet<N>,
+        chan: ChanId,
+    ) -> Option<Result<bool, Failed>> {
+        let job = self.take(chan, OpKind::Connect)?;
         let op = job.op();
         let made = net.try_finish(job, chan);
         let done = done_of_made(op, chan, OpKind::Connect, Outcome::Connected, made);
         self.note(done);
-        made
+        Some(made)
     }
 
-    fn read(&mut self, net: &mut JobNet<N>, chan: ChanNo, into: &mut [u8]) -> Result<Got, Failed> {
+    fn read(
+        &mut self,
+        net: &mut JobNet<N>,
+        chan: ChanId,
+        into: &mut [u8],
+    ) -> Option<Result<Got, Failed>> {
         if self.emptied == Some(chan) {
-            return Ok(Got::NotYet);
+            return None;
         }
-        let Some(job) = self.take(chan, OpKind::Read) else {
-            return Ok(Got::NotYet);
-        };
+        let job = self.take(chan, OpKind::Read)?;
         let op = job.op();
         let len = part(&job, into.len());
         let got = net.try_read(job, chan, &mut into[..len]);
@@ -314,30 +318,31 @@ impl<N: Net, E: Exchange + Drop> Way<JobNet<N>> for ByJobs<E> {
         if has_emptied(got, len) {
             self.emptied = Some(chan);
         }
-        got
+        Some(got)
     }
 
-    fn write(&mut self, net: &mut JobNet<N>, chan: ChanNo, from: &[u8]) -> Result<Put, Failed> {
-        let Some(job) = self.take(chan, OpKind::Write) else {
-            return Ok(Put::NotYet);
-        };
+    fn write(
+        &mut self,
+        net: &mut JobNet<N>,
+        chan: ChanId,
+        from: &[u8],
+    ) -> Option<Result<Put, Failed>> {
+        let job = self.take(chan, OpKind::Write)?;
         let op = job.op();
         let len = part(&job, from.len());
         let put = net.try_write(job, chan, &from[..len]);
         self.note(done_of_written(op, chan, put));
-        put
+        Some(put)
     }
 
-    fn shut_write(&mut self, net: &mut JobNet<N>, chan: ChanNo) -> Result<(), Failed> {
+    fn shut_write(&mut self, net: &mut JobNet<N>, chan: ChanId) -> Result<(), Failed> {
         net.shut_write(chan)
     }
 
-    fn close(&mut self, net: &mut JobNet<N>, chan: ChanNo) {
+    fn close(&mut self, net: &mut JobNet<N>, chan: ChanId) {
         net.close(chan);
         self.note(Done::Closed(chan));
     }
-
-    ghost kept_same = { N.kept_same };
 
     ghost kept_links = { N.kept_links };
 

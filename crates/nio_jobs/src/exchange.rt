@@ -2,7 +2,7 @@
 ghost use mathlib.Core.List.{IsPrefix};
 ghost use Rattle.std.specs.Prelude.{◌≡◌, ◌⊎◌, []};
 
-use nio_base::{ChanNo, OpKind, OpNo, Outcome};
+use nio_base::{ChanId, OpKind, OpNo, Outcome};
 use nio_group::Job;
 use std::sync::Wait;
 
@@ -12,9 +12,9 @@ pub enum Done {
     /// The operation has this outcome.
     Outcome(OpNo, Outcome),
     /// The channel's operation of this kind is still pending: its call found nothing to do, and used up the job.
-    Again(ChanNo, OpKind),
+    Again(ChanId, OpKind),
     /// The net's channel was closed.
-    Closed(ChanNo),
+    Closed(ChanId),
 }
 
 /// What a way by jobs reports to, and gets jobs from: a group whose handlers start the operations, or a desk whose

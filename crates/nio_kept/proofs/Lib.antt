@@ -2,3 +2,5 @@ mod Asked
 pub mod Continues
 mod Looks
 mod Told
+mod Counting
+mod Taking

@@ -1,5 +1,4 @@
--- The polls that a net answered, and what its channels are ready for: what the last poll told, as far as no call has
--- found otherwise since.
+-- The polls that a net answered, and what its numbers are ready for: what the last poll told, as far as it still holds.
 use Rattle.std.specs.Prelude.{ℕ, ◌==◌, if◌then◌else◌, List, fold}
 use Rattle.nio_base.specs.declared.numbers.ChanNo.{ChanNo}
 use Rattle.nio_kept.specs.declared.readiness.Readiness.{Readiness}

@@ -1,4 +1,4 @@
-//! What the last poll told, as far as no call has found otherwise since. It exists in proofs alone.
+//! What the last poll told, as far as it still holds. It exists in proofs alone.
 ghost use Rattle.std.specs.Prelude.{◌≡◌};
 ghost use Rattle.nio_base.specs.declared.numbers.ChanNo.{ChanNo as Channel};
 ghost use Rattle.nio_link.specs.Links.{IsSameBut};
@@ -11,7 +11,8 @@ use nio_poller::ToldPoll;
 use nio_select::{Asked, Told};
 use nio_trace::Trace;
 
-/// The polls that answered; the last poll, where it answered; and which operations calls have found not ready since.
+/// The polls that answered; the last poll, where it answered; and which operations calls have found not ready since, or
+/// taken away with all others of the number.
 #[derive(Drop)]
 pub struct Readiness {
     polls: Trace<ToldPoll>,
@@ -64,5 +65,15 @@ impl Readiness {
         ensures others { IsSameBut chan (ready_of self.old) (ready_of self.new) }
     {
         self.taken.push(&(chan, op));
+    }
+
+    /// What was told of the number is over: something was made there, closed or taken out.
+    #[tactic(auto, using(crate::proofs::Taking::all_taken))]
+    pub fn forget(&mut self, number: ChanNo)
+        ensures polls { polls_of self.new ≡ polls_of self.old }
+        ensures unready { ready_of self.new number ≡ 0 }
+        ensures others { IsSameBut number (ready_of self.old) (ready_of self.new) }
+    {
+        self.take(number, Ops::of(u8::MAX));
     }
 }

@@ -1,18 +1,17 @@
--- The places of channels and the accepted links, as calls change them.
-use Rattle.std.proofs.Common.{◌≡◌, ◌∙◌, Bool, if◌then◌else◌, List, [], ◌∷◌, ◌++◌, refl, ap, eq-eqb}
-use Rattle.std.proofs.lemmas.Bool.{ne_eqb}
+-- The places of channels and the accepted links, as changes make them.
+use Rattle.std.proofs.Common.{◌≡◌, ◌∙◌, Bool, if◌then◌else◌, List, [], ◌∷◌, ◌++◌, ap}
 use Rattle.std.proofs.lemmas.List.Sums.{fold-append}
-use Rattle.nio_base.specs.declared.numbers.ChanNo.{ChanNo}
-use Rattle.nio_link.proofs.Channels.{number_differs}
+use Rattle.nio_base.specs.declared.numbers.ChanId.{ChanId}
+use Rattle.nio_link.proofs.Channels.{is_another, is_itself}
 use Rattle.nio_link.specs.Accepts.{accepted_by, accepted_next}
 use Rattle.nio_link.specs.Links.{IsSameBut}
-use Rattle.nio_link.specs.Places.{changed, place_after, places_after, unused}
+use Rattle.nio_link.specs.Places.{changed, place_after, places_after, never_asked}
 use Rattle.nio_link.specs.declared.place.Change.{Change}
 use Rattle.nio_link.specs.declared.place.Place.{Place}
 
-module _ (changes : List (ChanNo × Change)) (c : ChanNo) (change : Change) where
-  one_more : (k : ChanNo) → places_after (changes ++ (c, change) ∷ []) k ≡ changed (places_after changes) (c, change) k
-  one_more k = ap (λ (places : ChanNo → Place). places k) (fold-append changed (λ _. unused) changes ((c, change) ∷ []))
+module _ (changes : List (ChanId × Change)) (c : ChanId) (change : Change) where
+  one_more : (k : ChanId) → places_after (changes ++ (c, change) ∷ []) k ≡ changed (places_after changes) (c, change) k
+  one_more k = ap (λ (places : ChanId → Place). places k) (fold-append changed (λ _. never_asked) changes ((c, change) ∷ []))
 
   pub accepted_here : accepted_by (changes ++ (c, change) ∷ []) ≡ accepted_next (accepted_by changes) (c, change)
   accepted_here = fold-append accepted_next [] changes ((c, change) ∷ [])
@@ -20,9 +19,9 @@ module _ (changes : List (ChanNo × Change)) (c : ChanNo) (change : Change) wher
   pub changed_here : places_after (changes ++ (c, change) ∷ []) c ≡ place_after change (places_after changes c)
   changed_here =
       one_more c ∙ ap (λ (b : Bool). if b then place_after change (places_after changes c) else places_after changes c)
-      (eq-eqb c.0 c.0 refl)
+      (is_itself c)
 
   pub changed_else : IsSameBut c (places_after changes) (places_after (changes ++ (c, change) ∷ []))
   changed_else k differ =
       one_more k ∙ ap (λ (b : Bool). if b then place_after change (places_after changes k) else places_after changes k)
-      (ne_eqb k.0 c.0 (number_differs k c differ))
+      (is_another k c differ)

@@ -1,20 +1,19 @@
 -- Links that are handed over, and the targets of their peers.
 use Rattle.std.proofs.Common.{◌≡◌, ℕ, zero, suc, ◌+◌, ◌<◌, ◌≤◌, ◌⊎◌, inl, inr, Bool, true, false, not, Option, Some}
 use Rattle.std.proofs.Common.{None, option_map}
-use Rattle.std.proofs.Common.{IfSome, List, [], ◌∷◌, ◌++◌, length, get_or, slice_set, ap, sym}
+use Rattle.std.proofs.Common.{IfSome, List, [], ◌∷◌, ◌++◌, length, get_or, ap, sym}
 use Rattle.std.proofs.Common.{◌∙◌, arith, true≢false}
-use Rattle.std.proofs.lemmas.List.{set-set}
 use Rattle.std.proofs.lemmas.List.Sums.{prefix_len-le-length, prefix_len_passes, prefix_len_stops}
 use Rattle.std.specs.List.{slice_get, remove}
 use Rattle.std.specs.Option.{option_to_list}
-use Rattle.nio_base.specs.declared.numbers.ChanNo.{ChanNo}
+use Rattle.nio_base.specs.declared.numbers.ChanId.{ChanId}
 use Rattle.nio_link.specs.MemoryLinks.{LinkState, IsFresh, is_same_peer}
 use Rattle.nio_link.specs.Links.{IsUnused}
 use Rattle.nio_link.specs.MemoryNet.{AreFresh, target_place, target_beside, other_targets, end_under}
-use Rattle.nio_link.specs.Slots.{slot_at, carried_at, carried_by, link_of, without_link, slots_after_take}
+use Rattle.nio_link.specs.Slots.{carried_at, carried_before, carried_by, link_at}
+use Rattle.nio_link.specs.declared.memory.slot.PastLink.{PastLink}
 use Rattle.nio_link.specs.declared.memory.peer_no.PeerNo.{PeerNo}
 use Rattle.nio_link.specs.declared.memory.slot.Slot.{Slot}
-use Rattle.nio_link.specs.declared.memory.slot.Slot.TheVariants as slot
 
 -- ---- finding a target
 
@@ -67,36 +66,24 @@ fresh_without [] (suc i) all = tt
 fresh_without (l ∷ later) zero all = all.1
 fresh_without (l ∷ later) (suc i) all = (all.0, fresh_without later i all.1)
 
-pub beside : (targets : List LinkState) (link : Option LinkState) → AreFresh targets
-    → IfSome (target_beside targets link) IsFresh
-beside targets None all = tt
-beside targets (Some l) all = fresh_at targets (target_place targets l.peer) all
+pub beside : (targets : List LinkState) (peer : PeerNo) → AreFresh targets
+    → IfSome (target_beside targets peer) IsFresh
+beside targets peer all = fresh_at targets (target_place targets peer) all
 
-pub others : (targets : List LinkState) (link : Option LinkState) → AreFresh targets
-    → AreFresh (other_targets targets link)
-others targets None all = all
-others targets (Some l) all = fresh_without targets (target_place targets l.peer) all
+pub others : (targets : List LinkState) (peer : PeerNo) → AreFresh targets → AreFresh (other_targets targets peer)
+others targets peer all = fresh_without targets (target_place targets peer) all
 
-pub taken : (slots : List Slot) (c : ChanNo) → IsUnused (carried_at slots c)
-    → IfSome (link_of (slot_at slots c)) IsFresh
-taken slots c = by_slot (slot_at slots c)
+pub taken : (slots : List Slot) (past : List PastLink) (c : ChanId) → IsUnused (carried_at slots past c)
+    → IfSome (link_at slots c) IsFresh
+taken slots past c = by_link (link_at slots c)
   where
-    by_slot : (s : Slot) → IsUnused (carried_by s) → IfSome (link_of s) IsFresh
-    by_slot slot.Free unused = tt
-    by_slot slot.Listener unused = tt
-    by_slot (slot.Link l) unused =
+    by_link : (o : Option LinkState) → IsUnused (carried_by o (carried_before past c)) → IfSome o IsFresh
+    by_link None unused = tt
+    by_link (Some l) unused =
         record { got = unused.got; ended = unused.ended; put = unused.put; shut = unused.shut }
 
-pub fresh_first : (c : ChanNo) (target : Option LinkState) (targets : List LinkState) → IfSome target IsFresh
+pub fresh_first : (c : ChanId) (target : Option LinkState) (targets : List LinkState) → IfSome target IsFresh
     → AreFresh targets → AreFresh (option_to_list (option_map (end_under c) target) ++ targets)
 fresh_first c None targets fresh all = all
 fresh_first c (Some l) targets fresh all =
     (record { got = fresh.got; ended = fresh.ended; put = fresh.put; shut = fresh.shut }, all)
-
--- ---- taking a link
-
--- a listener stays
-pub listener_stays : (slots : List Slot) (c : ChanNo) (x : Slot) → slot_at slots c ≡ slot.Listener
-    → slice_set (slice_set slots c.0 x) c.0 slot.Listener ≡ slots_after_take slots c
-listener_stays slots c x is =
-    set-set slots c.0 x slot.Listener ∙ ap (λ s. slice_set slots c.0 (without_link s)) (sym is)

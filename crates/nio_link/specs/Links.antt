@@ -1,7 +1,6 @@
 -- What links have carried.
 use Rattle.std.specs.Prelude.{◌≡◌, ◌≢◌, ℕ, ◌≤◌, Bool, true, false, Option, option_map, IfSome, Result, Ok, Err, List}
 use Rattle.std.specs.Prelude.{[], ◌++◌, length, take}
-use Rattle.nio_base.specs.declared.numbers.ChanNo.{ChanNo}
 use Rattle.nio_link.specs.declared.net.Failed.{Failed}
 use Rattle.nio_link.specs.declared.net.Got.{Got}
 use Rattle.nio_link.specs.declared.net.Got.TheVariants as got
@@ -23,9 +22,9 @@ pub record IsUnused (l : Link) : Type 0 where
   pub put : IfSome l.put (λ bytes. bytes ≡ [])
   pub shut : IfSome l.shut (λ x. x ≡ false)
 
--- each channel but this one has the same
-abbrev pub IsSameBut : {A : Type 0} → ChanNo → (ChanNo → A) → (ChanNo → A) → Type 0
-IsSameBut c before now = (k : ChanNo) → k ≢ c → now k ≡ before k
+-- each name but this one has the same
+abbrev pub IsSameBut : {K A : Type 0} → K → (K → A) → (K → A) → Type 0
+IsSameBut {K = K} c before now = (k : K) → k ≢ c → now k ≡ before k
 
 -- ---- reading
 

@@ -1,13 +1,12 @@
 -- A link in memory, as the net in memory sees it.
 use Rattle.std.specs.Prelude.{◌≡◌, ℕ, ◌-◌, ◌==◌, nat_lt, min, Bool, true, false, if◌then◌else◌, Some, Result, Ok, Err}
 use Rattle.std.specs.Prelude.{List}
-use Rattle.std.specs.Prelude.{[], ◌++◌, length, take, bit_or}
+use Rattle.std.specs.Prelude.{[], ◌∷◌, ◌++◌, length, take, bit_or}
 use Rattle.nio_link.specs.Links.{Link}
+use Rattle.nio_link.specs.Places.{is_same_channel}
 use Rattle.nio_link.specs.Pieces.{got_of, pieces_after, buffer_after}
 use Rattle.nio_link.specs.declared.memory.peer_no.PeerNo.{PeerNo}
 use Rattle.nio_link.specs.declared.memory.peer_no.PeerNo.TheVariants as peer
-use Rattle.nio_link.specs.declared.memory.stage.Stage.{Stage}
-use Rattle.nio_link.specs.declared.memory.stage.Stage.TheVariants as stage
 use Rattle.nio_link.specs.declared.net.Failed.{Failed}
 use Rattle.nio_link.specs.declared.net.Got.{Got}
 use Rattle.nio_link.specs.declared.net.Got.TheVariants as got
@@ -17,7 +16,6 @@ use Rattle.nio_link.specs.declared.net.Put.TheVariants as put
 pub record LinkState : Type 0 where
   -- the peer whose end it is
   pub peer : PeerNo
-  pub stage : Stage
   -- the pieces that reads are still to give, before the end
   pub pieces : List (List ℕ)
   -- what reads gave, and whether one told the end
@@ -48,23 +46,11 @@ abbrev pub is_same_peer : PeerNo → PeerNo → Bool
 is_same_peer (peer.Planned m) (peer.Planned n) = m == n
 is_same_peer (peer.Planned m) (peer.PutIn c) = false
 is_same_peer (peer.PutIn c) (peer.Planned n) = false
-is_same_peer (peer.PutIn c) (peer.PutIn d) = c.0 == d.0
+is_same_peer (peer.PutIn c) (peer.PutIn d) = is_same_channel c d
 
-abbrev pub is_connected : Stage → Bool
-is_connected stage.Connecting = false
-is_connected stage.Connected = true
-is_connected stage.Closed = false
-
-abbrev pub is_connecting : Stage → Bool
-is_connecting stage.Connecting = true
-is_connecting stage.Connected = false
-is_connecting stage.Closed = false
-
--- which operations a link is ready for
-abbrev pub link_ready : Stage → Bool → Bool → ℕ
-link_ready stage.Connecting ended shut = 8
-link_ready stage.Connected ended shut = bit_or (if ended then 0 else 1) (if shut then 0 else 4)
-link_ready stage.Closed ended shut = 0
+-- which operations a connected link is ready for
+abbrev pub link_ready : Bool → Bool → ℕ
+link_ready ended shut = bit_or (if ended then 0 else 1) (if shut then 0 else 4)
 
 -- ---- reading
 
@@ -104,14 +90,14 @@ put_after (Err failed) bytes before = before
 abbrev pub link_after_write : LinkState → List ℕ → LinkState
 link_after_write l bytes = record l { put = put_after (put_of l (length bytes)) bytes l.put }
 
+-- after writes of these bytes, one after the other
+abbrev pub written : LinkState → List (List ℕ) → LinkState
+written l [] = l
+written l (bytes ∷ later) = written (link_after_write l bytes) later
+
 -- ---- connecting
 
 -- what finishing the connection answers
 abbrev pub connect_answer : Bool → Result Bool Failed
 connect_answer true = Err (record {})
 connect_answer false = Ok true
-
--- after that
-abbrev pub stage_after_connect : Bool → Stage
-stage_after_connect true = stage.Closed
-stage_after_connect false = stage.Connected

@@ -5,19 +5,18 @@ use Rattle.nio_bytes.specs.Calls.{no_calls}
 use Rattle.nio_link.specs.MemoryLinks.{LinkState}
 use Rattle.nio_link.specs.MemoryNet.{NetState}
 use Rattle.nio_link.specs.Pieces.{total}
+use Rattle.nio_link.specs.PlaceLogs.{grown_occupants}
 use Rattle.nio_link.specs.declared.memory.plan.NetPlan.{NetPlan}
 use Rattle.nio_link.specs.declared.memory.peer_no.PeerNo.{PeerNo}
 use Rattle.nio_link.specs.declared.memory.peer_no.PeerNo.TheVariants as peer
 use Rattle.nio_link.specs.declared.memory.plan.PeerPlan.{PeerPlan}
 use Rattle.nio_link.specs.declared.memory.slot.Slot.{Slot}
 use Rattle.nio_link.specs.declared.memory.slot.Slot.TheVariants as slot
-use Rattle.nio_link.specs.declared.memory.stage.Stage.TheVariants as stage
 
 -- Nothing was carried. Reads are to give these pieces.
 abbrev pub fresh_link : PeerNo → List (List ℕ) → ℕ → ℕ → LinkState
 fresh_link peer pieces most limit = record {
   peer = peer;
-  stage = stage.Connected;
   pieces = pieces;
   got = [];
   ended = false;
@@ -40,10 +39,7 @@ limit_of (Some after) room = min after room
 -- the target's end, which is still to be connected, and takes what the client sends
 abbrev pub target_of : ℕ → List (List ℕ) → List (List ℕ) → ℕ → Option ℕ → Bool → LinkState
 target_of place sends answers most after fails =
-    record (fresh_link (peer.Planned place) answers (max most 1) (limit_of after (total sends))) {
-      stage = stage.Connecting;
-      fail_connect = fails;
-    }
+    record (fresh_link (peer.Planned place) answers (max most 1) (limit_of after (total sends))) { fail_connect = fails }
 
 -- both ends of the peer at this place of the plan
 abbrev pub client_end : ℕ → PeerPlan → LinkState
@@ -72,11 +68,13 @@ free_slots peers = replicate (2 * peers + 1) slot.Free
 abbrev pub planned : NetPlan → NetState
 planned plan = record {
   slots = free_slots (length plan.peers.items);
+  past = [];
   clients = ends_from client_end 0 plan.peers.items;
   targets = ends_from target_end 0 plan.peers.items;
   polls = no_calls (numbers_of plan.fail_poll);
   accepts = no_calls (numbers_of plan.fail_accept);
   faulted = [];
   changes = [];
+  occupants = grown_occupants [] (2 * length plan.peers.items + 1);
   findings = [];
 }

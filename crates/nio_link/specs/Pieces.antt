@@ -39,3 +39,12 @@ abbrev pub count_of : Got → ℕ
 count_of (got.Bytes n) = n
 count_of got.End = 0
 count_of got.NotYet = 0
+
+-- the piece of which the next read gives bytes
+abbrev pub first_piece : List (List ℕ) → List ℕ
+first_piece [] = []
+first_piece (piece ∷ later) = piece
+
+-- the bytes that a read into this buffer gives
+abbrev pub given : List (List ℕ) → List ℕ → List ℕ
+given pieces buffer = take (count_of (got_of pieces (length buffer))) (buffer_after pieces buffer)

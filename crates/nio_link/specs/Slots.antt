@@ -1,61 +1,100 @@
--- The channels of a net in memory: what stands under each, and what calls answer and leave there.
-use Rattle.std.specs.Prelude.{ℕ, Bool, true, false, if◌then◌else◌, Option, Some, None, option_map, Result, Ok, Err}
-use Rattle.std.specs.Prelude.{List, [], ◌++◌, ◌-◌, length, replicate, slice_set}
+-- The numbers of a net in memory: the last link of each, and what calls answer and leave there.
+use Rattle.std.specs.Prelude.{ℕ, nat_lt, ◌&&◌, IsTrue, Bool, true, false, if◌then◌else◌, ◌==◌, Option, Some, None}
+use Rattle.std.specs.Prelude.{option_map, Result, Ok, Err, List, [], ◌∷◌, ◌++◌, ◌-◌, length, replicate, slice_set}
 use Rattle.std.specs.List.{slice_index_or}
+use Rattle.nio_base.specs.declared.numbers.ChanId.{ChanId}
 use Rattle.nio_base.specs.declared.numbers.ChanNo.{ChanNo}
 use Rattle.nio_link.specs.Links.{Link}
-use Rattle.nio_link.specs.MemoryLinks.{LinkState, carried, is_connected, is_connecting, link_ready, link_after_read}
-use Rattle.nio_link.specs.MemoryLinks.{link_after_write, put_of, connect_answer, stage_after_connect}
+use Rattle.nio_link.specs.MemoryLinks.{LinkState, carried, link_ready, link_after_read, link_after_write, put_of}
+use Rattle.nio_link.specs.MemoryLinks.{connect_answer}
 use Rattle.nio_link.specs.Pieces.{got_of, buffer_after}
+use Rattle.nio_link.specs.Places.{channel, is_same_channel}
+use Rattle.nio_link.specs.declared.memory.slot.PastLink.{PastLink}
 use Rattle.nio_link.specs.declared.memory.slot.Slot.{Slot}
 use Rattle.nio_link.specs.declared.memory.slot.Slot.TheVariants as slot
-use Rattle.nio_link.specs.declared.memory.stage.Stage.TheVariants as stage
 use Rattle.nio_link.specs.declared.net.Failed.{Failed}
 use Rattle.nio_link.specs.declared.net.Got.{Got}
 use Rattle.nio_link.specs.declared.net.Put.{Put}
+use Rattle.nio_link.specs.declared.place.Standing.{Standing}
+use Rattle.nio_link.specs.declared.place.Standing.TheVariants as standing
+use Rattle.nio_link.specs.declared.occupants.Occupant.{Occupant}
 
--- what stands under a channel
+-- ---- the links of a number
+
+-- the last link of a number
 abbrev pub slot_at : List Slot → ChanNo → Slot
-slot_at slots c = slice_index_or slots c.0 slot.Free
+slot_at slots n = slice_index_or slots n.0 slot.Free
+
+-- the link there, where it has this serial
+abbrev pub link_of : Slot → ℕ → Option LinkState
+link_of slot.Free s = None
+link_of (slot.TakenOut m) s = None
+link_of (slot.Link m l) s = if m == s then Some l else None
+
+abbrev pub link_at : List Slot → ChanId → Option LinkState
+link_at slots c = link_of (slot_at slots c.number) c.serial
+
+-- the serial of the last link of a number, if it had one
+abbrev pub last_serial : Slot → Option ℕ
+last_serial slot.Free = None
+last_serial (slot.TakenOut m) = Some m
+last_serial (slot.Link m l) = Some m
+
+-- a link of this serial comes after the last one of the number
+abbrev pub comes_after : Slot → ℕ → Bool
+comes_after slot.Free s = true
+comes_after (slot.TakenOut m) s = nat_lt m s
+comes_after (slot.Link m l) s = nat_lt m s
+
+-- it came before the last one
+abbrev pub came_before : Slot → ℕ → Bool
+came_before slot.Free s = false
+came_before (slot.TakenOut m) s = nat_lt s m
+came_before (slot.Link m l) s = nat_lt s m
+
+-- the net has the number, and a link of this channel comes after its last one
+abbrev pub can_bear : List Slot → ChanId → Bool
+can_bear slots c = nat_lt c.number.0 (length slots) && comes_after (slot_at slots c.number) c.serial
+
+-- links that came before the last ones of their numbers
+abbrev pub ArePast : List Slot → List PastLink → Type 0
+ArePast slots [] = Unit {0}
+ArePast slots (p ∷ later) =
+    IsTrue (came_before (slot_at slots p.channel.number) p.channel.serial) × ArePast slots later
+
+-- the link, where it stands
+abbrev pub if_linked : Bool → Option LinkState → Option LinkState
+if_linked linked link = if linked then link else None
+
+-- ---- what was carried
 
 abbrev pub nothing_carried : Link
 nothing_carried = record { got = Some []; ended = Some false; put = Some []; shut = Some false }
 
--- what was carried there
-abbrev pub carried_by : Slot → Link
-carried_by slot.Free = nothing_carried
-carried_by slot.Listener = nothing_carried
-carried_by (slot.Link l) = carried l
+abbrev pub carried_before : List PastLink → ChanId → Link
+carried_before [] c = nothing_carried
+carried_before (p ∷ later) c = if is_same_channel p.channel c then carried p.link else carried_before later c
 
-abbrev pub carried_at : List Slot → ChanNo → Link
-carried_at slots c = carried_by (slot_at slots c)
+-- by the last link of the number, or else by those before
+abbrev pub carried_by : Option LinkState → Link → Link
+carried_by None before = before
+carried_by (Some l) before = carried l
 
--- the link there, where it is connected
-abbrev pub connected : Slot → Option LinkState
-connected slot.Free = None
-connected slot.Listener = None
-connected (slot.Link l) = if is_connected l.stage then Some l else None
+abbrev pub carried_at : List Slot → List PastLink → ChanId → Link
+carried_at slots past c = carried_by (link_at slots c) (carried_before past c)
 
--- the link there, where it is still to be connected
-abbrev pub connecting : Slot → Option LinkState
-connecting slot.Free = None
-connecting slot.Listener = None
-connecting (slot.Link l) = if is_connecting l.stage then Some l else None
+-- ---- putting links
 
--- a link that is put there, if there is one
-abbrev pub placed : ChanNo → List Slot → Option LinkState → List Slot
+-- the changed link of this channel, if there is one
+abbrev pub placed : ChanId → List Slot → Option LinkState → List Slot
 placed c slots None = slots
-placed c slots (Some l) = slice_set slots c.0 (slot.Link l)
+placed c slots (Some l) = slice_set slots c.number.0 (slot.Link c.serial l)
 
-abbrev pub holds_nothing : Slot → Bool
-holds_nothing slot.Free = true
-holds_nothing slot.Listener = false
-holds_nothing (slot.Link l) = false
-
-abbrev pub holds_listener : Slot → Bool
-holds_listener slot.Free = false
-holds_listener slot.Listener = true
-holds_listener (slot.Link l) = false
+-- the past links, after a link was put over this one
+abbrev pub past_after : ChanNo → Slot → List PastLink → List PastLink
+past_after n slot.Free past = past
+past_after n (slot.TakenOut m) past = past
+past_after n (slot.Link m l) past = record { channel = channel n m; link = l } ∷ past
 
 -- ---- reading
 
@@ -67,9 +106,8 @@ abbrev pub read_buffer : Option LinkState → List ℕ → List ℕ
 read_buffer None buffer = buffer
 read_buffer (Some l) buffer = buffer_after l.pieces buffer
 
-abbrev pub slots_after_read : List Slot → ChanNo → List ℕ → List Slot
-slots_after_read slots c buffer =
-    placed c slots (option_map (λ l. link_after_read l buffer) (connected (slot_at slots c)))
+abbrev pub slots_after_read : List Slot → ChanId → Option LinkState → List ℕ → List Slot
+slots_after_read slots c link buffer = placed c slots (option_map (λ l. link_after_read l buffer) link)
 
 -- ---- writing
 
@@ -77,9 +115,8 @@ abbrev pub write_answer : Option LinkState → ℕ → Result Put Failed
 write_answer None count = Err (record {})
 write_answer (Some l) count = put_of l count
 
-abbrev pub slots_after_write : List Slot → ChanNo → List ℕ → List Slot
-slots_after_write slots c bytes =
-    placed c slots (option_map (λ l. link_after_write l bytes) (connected (slot_at slots c)))
+abbrev pub slots_after_write : List Slot → ChanId → Option LinkState → List ℕ → List Slot
+slots_after_write slots c link bytes = placed c slots (option_map (λ l. link_after_write l bytes) link)
 
 -- ---- shutting
 
@@ -87,9 +124,8 @@ abbrev pub shut_answer : Option LinkState → Result (Unit {0}) Failed
 shut_answer None = Err (record {})
 shut_answer (Some l) = Ok tt
 
-abbrev pub slots_after_shut : List Slot → ChanNo → List Slot
-slots_after_shut slots c =
-    placed c slots (option_map (λ (l : LinkState). record l { shut = true }) (connected (slot_at slots c)))
+abbrev pub slots_after_shut : List Slot → ChanId → Option LinkState → List Slot
+slots_after_shut slots c link = placed c slots (option_map (λ (l : LinkState). record l { shut = true }) link)
 
 -- ---- connecting
 
@@ -97,47 +133,31 @@ abbrev pub finish_answer : Option LinkState → Result Bool Failed
 finish_answer None = Err (record {})
 finish_answer (Some l) = connect_answer l.fail_connect
 
-abbrev pub slots_after_finish : List Slot → ChanNo → List Slot
-slots_after_finish slots c =
-    placed c slots
-    (option_map (λ (l : LinkState). record l { stage = stage_after_connect l.fail_connect })
-    (connecting (slot_at slots c)))
-
--- ---- closing
-
-abbrev pub closed : Slot → Slot
-closed slot.Free = slot.Free
-closed slot.Listener = slot.Free
-closed (slot.Link l) = slot.Link (record l { stage = stage.Closed })
-
--- a channel outside the net has nothing to close
-abbrev pub slots_after_close : List Slot → ChanNo → List Slot
-slots_after_close slots c = slice_set slots c.0 (closed (slot_at slots c))
-
 -- ---- taking out and putting in
 
--- the link there, connected or not
-abbrev pub link_of : Slot → Option LinkState
-link_of slot.Free = None
-link_of slot.Listener = None
-link_of (slot.Link l) = Some l
+abbrev pub slots_after_take : List Slot → ChanId → Option LinkState → List Slot
+slots_after_take slots c None = slots
+slots_after_take slots c (Some l) = slice_set slots c.number.0 (slot.TakenOut c.serial)
 
-abbrev pub without_link : Slot → Slot
-without_link slot.Free = slot.Free
-without_link slot.Listener = slot.Listener
-without_link (slot.Link l) = slot.Free
-
-abbrev pub slots_after_take : List Slot → ChanNo → List Slot
-slots_after_take slots c = slice_set slots c.0 (without_link (slot_at slots c))
-
--- with free places for the channels below this number
+-- with places for the numbers below this one
 abbrev pub grown : List Slot → ℕ → List Slot
 grown slots places = slots ++ replicate (places - length slots) slot.Free
 
 -- ---- readiness
 
--- which operations a channel is ready for, where clients are waiting or not
-abbrev pub ready_at : Bool → Slot → ℕ
-ready_at waiting slot.Free = 0
-ready_at waiting slot.Listener = if waiting then 16 else 0
-ready_at waiting (slot.Link l) = link_ready l.stage l.ended l.shut
+abbrev pub ready_link : Option LinkState → ℕ
+ready_link None = 0
+ready_link (Some l) = link_ready l.ended l.shut
+
+-- which operations what stands there is ready for, where clients are waiting or not
+abbrev pub ready_standing : Bool → Standing → Option LinkState → ℕ
+ready_standing waiting standing.Nothing link = 0
+ready_standing waiting standing.Listening link = if waiting then 16 else 0
+ready_standing waiting standing.Connecting link = 8
+ready_standing waiting standing.Linked link = ready_link link
+ready_standing waiting standing.Shut link = ready_link link
+ready_standing waiting standing.Gone link = 0
+
+abbrev pub ready_by : Bool → Option Occupant → Slot → ℕ
+ready_by waiting None last = 0
+ready_by waiting (Some h) last = ready_standing waiting h.standing (link_of last h.serial)

@@ -1,9 +1,9 @@
 -- What the calls of a stream link answer, by its kept state, and what they leave.
 use Rattle.std.specs.Prelude.{◌≡◌, ℕ, Bool, true, false, Option, Some, None, Result, Ok, Err, List}
 use Rattle.nio_base.specs.declared.numbers.Addr.{Addr}
-use Rattle.nio_base.specs.declared.numbers.ChanNo.{ChanNo}
+use Rattle.nio_base.specs.declared.numbers.ChanId.{ChanId}
 use Rattle.nio_link.specs.Nets.{NetView, Connects, Finishes, Reads, Writes, Closes}
-use Rattle.nio_link.specs.Places.{unused, IsLinked, IsVacant}
+use Rattle.nio_link.specs.Places.{IsFree, IsLinked, IsVacant}
 use Rattle.nio_link.specs.declared.net.Failed.{Failed}
 use Rattle.nio_link.specs.declared.net.Got.{Got}
 use Rattle.nio_link.specs.declared.net.Put.{Put}
@@ -16,15 +16,15 @@ use Rattle.nio_link.specs.declared.stream.StreamState.{StreamState}
 use Rattle.nio_link.specs.declared.stream.StreamState.TheVariants.{Unconnected, Connecting, Connected, Closed}
 
 pub record Stream : Type 0 where
-  pub channel : ChanNo
+  pub channel : ChanId
   pub state : StreamState
 
 -- what stands under its channel
-abbrev pub StandsAs : StreamState → Place → Type 0
-StandsAs Unconnected place = place ≡ unused
-StandsAs Connecting place = place.standing ≡ standing.Connecting
-StandsAs Connected place = IsLinked place.standing
-StandsAs Closed place = IsVacant place.standing
+abbrev pub StandsAs : StreamState → (ChanId → Place) → ChanId → Type 0
+StandsAs Unconnected place c = IsFree place c
+StandsAs Connecting place c = (place c).standing ≡ standing.Connecting
+StandsAs Connected place c = IsLinked (place c).standing
+StandsAs Closed place c = IsVacant (place c).standing
 
 -- the refusal of each call, where the state refuses it
 abbrev pub connect_refusal : StreamState → Option LinkError

@@ -2,8 +2,9 @@
 #![tactic(auto)]
 
 pub use job_net::{JobNet, of_net};
-pub use memory::{LooseLink, MemoryNet, NetPlan, PeerPlan};
+pub use memory::{LooseLink, MemoryNet, NetPlan, PeerPlan, pieces_law, write_limit_law};
 pub use net::{Failed, Got, Net, Put};
+pub use occupants::{Occupant, Occupants};
 pub use passable::Passable;
 pub use place::{Change, Place, Role, Standing, stands_law};
 pub use place_log::PlaceLog;
@@ -12,6 +13,7 @@ pub use stream::{LinkError, StreamLink, StreamState};
 mod job_net;
 mod memory;
 mod net;
+mod occupants;
 mod passable;
 mod place;
 mod place_log;

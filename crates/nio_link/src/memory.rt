@@ -1,9 +1,11 @@
 //! A net in memory, for tests.
+pub use laws::{pieces_law, write_limit_law};
 pub use loose::LooseLink;
 pub use memory_net::MemoryNet;
 pub use plan::{NetPlan, PeerPlan};
 
 mod finding;
+mod laws;
 mod link;
 mod loose;
 mod memory_net;
@@ -12,4 +14,3 @@ mod peer_no;
 mod pieces;
 mod plan;
 mod slot;
-mod stage;

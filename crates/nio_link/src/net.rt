@@ -1,15 +1,11 @@
 //! What carries bytes over links.
-ghost use Rattle.std.specs.Prelude.{◌≡◌, ◌≢◌, [], IfOk, IsTrue};
-ghost use Rattle.nio_bytes.specs.Cause.{HasCause};
-ghost use Rattle.nio_base.specs.Ops.{is_within};
-ghost use Rattle.nio_link.specs.Accepts.{accepted_after};
-ghost use Rattle.nio_link.specs.Links.{Link, IsSameBut, IsGot, IsPut, after_read, after_write, after_shut};
-ghost use Rattle.nio_link.specs.Places.{unused, IsLinked, place_after_listen, place_after_accept, place_after_connect};
-ghost use Rattle.nio_link.specs.Places.{place_after_finish, place_after_shut, place_after_close};
-ghost use Rattle.nio_link.specs.Readiness.{ready_after_read, ready_after_write, ready_after_accept};
-ghost use Rattle.nio_link.specs.Readiness.{ready_after_connect};
+ghost use Rattle.std.specs.Prelude.{◌≡◌, ◌≢◌, []};
+ghost use Rattle.nio_link.specs.Links.{Link};
+ghost use Rattle.nio_link.specs.Nets.{view_of, MayAccept, MayFinish, MayRead, MayWrite, Listens, Accepts, Connects};
+ghost use Rattle.nio_link.specs.Nets.{Finishes, Reads, Writes, Shuts, Closes};
+ghost use Rattle.nio_link.specs.Places.{IsFree};
 
-use nio_base::{Addr, ChanNo};
+use nio_base::{Addr, ChanId};
 use nio_poller::Poller;
 use thiserror::Error;
 
@@ -39,151 +35,80 @@ pub enum Put {
 }
 
 /// Links and listeners, and a poller that says what they are ready for. Each is named by the channel under which it
-/// was made. A call may be made only where its channel's place allows it: so a call that fails does so for what the net
-/// finds, and not because the caller made it at a wrong time. A call that needs readiness may be made where the last
-/// poll told it and no call since has found otherwise.
+/// was made: a number and a serial. A number serves again, under a later serial, once what stood there was closed or
+/// taken out, or couldn't be connected; what a link has carried, and how often its calls failed, is shown by its own name
+/// still. A call may be made only where its channel's place allows it: so a call that fails does so for what the net
+/// finds, and not because the caller made it at a wrong time. A call that needs readiness may be made where the last poll
+/// told it of the channel's number and, since then, no call has found otherwise, or made, closed or taken out anything
+/// under that number: so it reaches what its caller was told of, and nothing that came there later.
 pub trait Net: Poller {
     ghost use Rattle.std.specs.Prelude.{ℕ, List};
-    ghost use Rattle.nio_base.specs.declared.numbers.ChanNo.{ChanNo};
+    ghost use Rattle.nio_base.specs.declared.numbers.ChanId.{ChanId};
     ghost use Rattle.nio_link.specs.declared.place.Place.{Place};
     ghost use Rattle.nio_link.specs.declared.place.Standing.TheVariants as standing;
 
     // What a link has carried, as far as the net shows it.
-    ghost link: { Self → ChanNo → Link };
+    ghost link: { Self → ChanId → Link };
 
     // How often a call on a link or a listener has failed.
-    ghost faults: { Self → ChanNo → ℕ };
+    ghost faults: { Self → ChanId → ℕ };
 
     // What a channel was asked to be, and what stands there.
-    ghost place: { Self → ChanNo → Place };
+    ghost place: { Self → ChanId → Place };
 
     // The channels of the links that were accepted, in the order in which their accepts answered true.
-    ghost accepted: { Self → List ChanNo };
+    ghost accepted: { Self → List ChanId };
 
-    /// Makes a listener under this channel.
-    fn listen(&mut self, chan: ChanNo, at: Addr) -> Result<(), Failed>
-        requires unused { place self.old chan ≡ unused }
-        ensures cause { HasCause (faults self.old chan) (faults self.new chan) result }
-        ensures others { IsSameBut chan (faults self.old) (faults self.new) }
-        ensures links { (c : ChanNo) → link self.new c ≡ link self.old c }
-        ensures ready { (c : ChanNo) → Self.ready self.new c ≡ Self.ready self.old c }
-        ensures place { place self.new chan ≡ place_after_listen result at }
-        ensures places { IsSameBut chan (place self.old) (place self.new) }
-        ensures accepted { accepted self.new ≡ accepted self.old }
-        ensures polls { Self.poll_faults self.new ≡ Self.poll_faults self.old }
-        ensures shown { Self.polls self.new ≡ Self.polls self.old };
+    /// Makes a listener under this channel. Where that fails, the channel can be asked again.
+    fn listen(&mut self, chan: ChanId, at: Addr) -> Result<(), Failed>
+        requires { IsFree (place self.old) chan }
+        ensures { Listens chan at (view_of Self.Net self.old) (view_of Self.Net self.new) result };
 
     /// Takes a connection from a listener, and makes a link of it under the channel `chan`. False where none has come
-    /// yet.
-    fn accept(&mut self, listener: ChanNo, chan: ChanNo) -> Result<bool, Failed>
-        requires ready { IsTrue (is_within 16 (Self.ready self.old listener)) }
-        requires listens { (place self.old listener).standing ≡ standing.Listening }
-        requires unused { place self.old chan ≡ unused }
-        ensures cause { HasCause (faults self.old listener) (faults self.new listener) result }
-        ensures others { IsSameBut listener (faults self.old) (faults self.new) }
-        ensures links { (c : ChanNo) → link self.new c ≡ link self.old c }
-        ensures ready { Self.ready self.new listener ≡ ready_after_accept result (Self.ready self.old listener) }
-        ensures ready_else { IsSameBut listener (Self.ready self.old) (Self.ready self.new) }
-        ensures place { place self.new chan ≡ place_after_accept result listener (place self.old chan) }
-        ensures places { IsSameBut chan (place self.old) (place self.new) }
-        ensures accepted { accepted self.new ≡ accepted_after result chan (accepted self.old) }
-        ensures polls { Self.poll_faults self.new ≡ Self.poll_faults self.old }
-        ensures shown { Self.polls self.new ≡ Self.polls self.old };
+    /// yet. Where none has come, or the call fails, the channel can be asked again.
+    fn accept(&mut self, listener: ChanId, chan: ChanId) -> Result<bool, Failed>
+        requires { MayAccept listener chan (view_of Self.Net self.old) }
+        ensures { Accepts listener chan (view_of Self.Net self.old) (view_of Self.Net self.new) result };
 
-    /// Begins to connect a link under this channel. True where it is connected; false where that isn't done yet.
-    fn connect(&mut self, chan: ChanNo, to: Addr) -> Result<bool, Failed>
-        requires unused { place self.old chan ≡ unused }
-        ensures cause { HasCause (faults self.old chan) (faults self.new chan) result }
-        ensures others { IsSameBut chan (faults self.old) (faults self.new) }
-        ensures links { (c : ChanNo) → link self.new c ≡ link self.old c }
-        ensures ready { (c : ChanNo) → Self.ready self.new c ≡ Self.ready self.old c }
-        ensures place { place self.new chan ≡ place_after_connect result to }
-        ensures places { IsSameBut chan (place self.old) (place self.new) }
-        ensures accepted { accepted self.new ≡ accepted self.old }
-        ensures polls { Self.poll_faults self.new ≡ Self.poll_faults self.old }
-        ensures shown { Self.polls self.new ≡ Self.polls self.old };
+    /// Begins to connect a link under this channel. True where it is connected; false where that isn't done yet. As in
+    /// Java, a link that couldn't be connected is closed.
+    fn connect(&mut self, chan: ChanId, to: Addr) -> Result<bool, Failed>
+        requires { IsFree (place self.old) chan }
+        ensures { Connects chan to (view_of Self.Net self.old) (view_of Self.Net self.new) result };
 
     /// Goes on connecting a link. True where it is connected; false where that isn't done yet. As in Java, a link that
     /// couldn't be connected is closed.
-    fn finish_connect(&mut self, chan: ChanNo) -> Result<bool, Failed>
-        requires ready { IsTrue (is_within 8 (Self.ready self.old chan)) }
-        requires connecting { (place self.old chan).standing ≡ standing.Connecting }
-        ensures cause { HasCause (faults self.old chan) (faults self.new chan) result }
-        ensures others { IsSameBut chan (faults self.old) (faults self.new) }
-        ensures links { (c : ChanNo) → link self.new c ≡ link self.old c }
-        ensures ready { Self.ready self.new chan ≡ ready_after_connect result (Self.ready self.old chan) }
-        ensures ready_else { IsSameBut chan (Self.ready self.old) (Self.ready self.new) }
-        ensures place { place self.new chan ≡ place_after_finish result (place self.old chan) }
-        ensures places { IsSameBut chan (place self.old) (place self.new) }
-        ensures accepted { accepted self.new ≡ accepted self.old }
-        ensures polls { Self.poll_faults self.new ≡ Self.poll_faults self.old }
-        ensures shown { Self.polls self.new ≡ Self.polls self.old };
+    fn finish_connect(&mut self, chan: ChanId) -> Result<bool, Failed>
+        requires { MayFinish chan (view_of Self.Net self.old) }
+        ensures { Finishes chan (view_of Self.Net self.old) (view_of Self.Net self.new) result };
 
     /// Reads what has come on a link, as far as it fits.
-    fn read(&mut self, chan: ChanNo, into: &mut [u8]) -> Result<Got, Failed>
+    fn read(&mut self, chan: ChanId, into: &mut [u8]) -> Result<Got, Failed>
         requires some { into.old ≢ [] }
-        requires ready { IsTrue (is_within 1 (Self.ready self.old chan)) }
-        requires linked { IsLinked (place self.old chan).standing }
-        ensures cause { HasCause (faults self.old chan) (faults self.new chan) result }
-        ensures others { IsSameBut chan (faults self.old) (faults self.new) }
-        ensures got { IfOk result (IsGot into.old) }
-        ensures link { link self.new chan ≡ after_read result into.new (link self.old chan) }
-        ensures links { IsSameBut chan (link self.old) (link self.new) }
-        ensures ready { Self.ready self.new chan ≡ ready_after_read result (Self.ready self.old chan) }
-        ensures ready_else { IsSameBut chan (Self.ready self.old) (Self.ready self.new) }
-        ensures places { (c : ChanNo) → place self.new c ≡ place self.old c }
-        ensures accepted { accepted self.new ≡ accepted self.old }
-        ensures polls { Self.poll_faults self.new ≡ Self.poll_faults self.old }
-        ensures shown { Self.polls self.new ≡ Self.polls self.old };
+        requires may { MayRead chan (view_of Self.Net self.old) }
+        ensures { Reads chan (view_of Self.Net self.old) (view_of Self.Net self.new) into.old into.new result };
 
     /// Writes bytes on a link, as many as it takes.
-    fn write(&mut self, chan: ChanNo, from: &[u8]) -> Result<Put, Failed>
+    fn write(&mut self, chan: ChanId, from: &[u8]) -> Result<Put, Failed>
         requires some { from.now ≢ [] }
-        requires ready { IsTrue (is_within 4 (Self.ready self.old chan)) }
-        requires linked { (place self.old chan).standing ≡ standing.Linked }
-        ensures cause { HasCause (faults self.old chan) (faults self.new chan) result }
-        ensures others { IsSameBut chan (faults self.old) (faults self.new) }
-        ensures put { IfOk result (IsPut from.now) }
-        ensures link { link self.new chan ≡ after_write result from.now (link self.old chan) }
-        ensures links { IsSameBut chan (link self.old) (link self.new) }
-        ensures ready { Self.ready self.new chan ≡ ready_after_write result (Self.ready self.old chan) }
-        ensures ready_else { IsSameBut chan (Self.ready self.old) (Self.ready self.new) }
-        ensures places { (c : ChanNo) → place self.new c ≡ place self.old c }
-        ensures accepted { accepted self.new ≡ accepted self.old }
-        ensures polls { Self.poll_faults self.new ≡ Self.poll_faults self.old }
-        ensures shown { Self.polls self.new ≡ Self.polls self.old };
+        requires may { MayWrite chan (view_of Self.Net self.old) }
+        ensures { Writes chan (view_of Self.Net self.old) (view_of Self.Net self.new) from.now result };
 
     /// Shuts the side of a link on which bytes are written, so that the other side finds their end.
-    fn shut_write(&mut self, chan: ChanNo) -> Result<(), Failed>
-        requires linked { (place self.old chan).standing ≡ standing.Linked }
-        ensures cause { HasCause (faults self.old chan) (faults self.new chan) result }
-        ensures others { IsSameBut chan (faults self.old) (faults self.new) }
-        ensures link { link self.new chan ≡ after_shut result (link self.old chan) }
-        ensures links { IsSameBut chan (link self.old) (link self.new) }
-        ensures ready { (c : ChanNo) → Self.ready self.new c ≡ Self.ready self.old c }
-        ensures place { place self.new chan ≡ place_after_shut result (place self.old chan) }
-        ensures places { IsSameBut chan (place self.old) (place self.new) }
-        ensures accepted { accepted self.new ≡ accepted self.old }
-        ensures polls { Self.poll_faults self.new ≡ Self.poll_faults self.old }
-        ensures shown { Self.polls self.new ≡ Self.polls self.old };
+    fn shut_write(&mut self, chan: ChanId) -> Result<(), Failed>
+        requires { (place self.old chan).standing ≡ standing.Linked }
+        ensures { Shuts chan (view_of Self.Net self.old) (view_of Self.Net self.new) result };
 
     /// Closes a link or a listener, where one stands there. What it has carried is shown as before.
-    fn close(&mut self, chan: ChanNo)
-        ensures faults { (c : ChanNo) → faults self.new c ≡ faults self.old c }
-        ensures links { (c : ChanNo) → link self.new c ≡ link self.old c }
-        ensures ready { (c : ChanNo) → Self.ready self.new c ≡ Self.ready self.old c }
-        ensures place { place self.new chan ≡ place_after_close (place self.old chan) }
-        ensures places { IsSameBut chan (place self.old) (place self.new) }
-        ensures accepted { accepted self.new ≡ accepted self.old }
-        ensures polls { Self.poll_faults self.new ≡ Self.poll_faults self.old }
-        ensures shown { Self.polls self.new ≡ Self.polls self.old };
+    fn close(&mut self, chan: ChanId)
+        ensures { Closes chan (view_of Self.Net self.old) (view_of Self.Net self.new) };
 
     // Polls carry no bytes, count no faults of links, leave what stands, and accept nothing.
-    ghost kept_links: { (x y : Self) → Self.kept x y → (c : ChanNo) → link y c ≡ link x c };
+    ghost kept_links: { (x y : Self) → Self.kept x y → (c : ChanId) → link y c ≡ link x c };
 
-    ghost kept_faults: { (x y : Self) → Self.kept x y → (c : ChanNo) → faults y c ≡ faults x c };
+    ghost kept_faults: { (x y : Self) → Self.kept x y → (c : ChanId) → faults y c ≡ faults x c };
 
-    ghost kept_places: { (x y : Self) → Self.kept x y → (c : ChanNo) → place y c ≡ place x c };
+    ghost kept_places: { (x y : Self) → Self.kept x y → (c : ChanId) → place y c ≡ place x c };
 
     ghost kept_accepted: { (x y : Self) → Self.kept x y → accepted y ≡ accepted x };
 }

@@ -1,11 +1,12 @@
 //! What a channel of a net was asked to be, and what stands there.
 ghost use Rattle.std.specs.Prelude.{◌≡◌, false};
-ghost use Rattle.nio_link.specs.Places.{stands, place_after, stands_after, moves_link, IsAllowed};
+ghost use Rattle.nio_link.specs.Places.{is_standing, stands, place_after, standing_after, moves_link, IsAllowed};
 
 use crate::net::Failed;
-use nio_base::{Addr, ChanNo};
+use nio_base::{Addr, ChanId};
 
-/// What a channel of a net was asked to be. A channel is asked once.
+/// What a channel of a net was asked to be. A channel is one thing in its life: what comes after it under its number has
+/// a later serial.
 #[derive(Clone, Copy, Debug, PartialEq, Eq)]
 pub enum Role {
     /// Nothing yet.
@@ -13,7 +14,7 @@ pub enum Role {
     /// A listener at this address.
     Listener(Addr),
     /// A link from this listener.
-    Accepted(ChanNo),
+    Accepted(ChanId),
     /// A link to this address.
     Connected(Addr),
     /// A link that was taken out of another net, or of this one from under another channel.
@@ -33,7 +34,7 @@ pub enum Standing {
     Linked,
     /// A link whose side on which bytes are written was shut.
     Shut,
-    /// What stood there was closed.
+    /// What stood there was closed or taken out, or a link couldn't be connected.
     Gone,
 }
 
@@ -46,15 +47,21 @@ pub struct Place {
     pub standing: Standing,
 }
 
-/// A call on a channel that can change its place: the call of `Net` or `Passable` that the variant names, with what it
-/// was given and its answer. The places of a net follow from the list of its changes (`places_after`).
+/// A change of the place of a channel, by the call of `Net` or `Passable` that the variant names. The places of a net
+/// follow from the list of its changes (`places_after`).
 #[derive(Clone, Copy, Debug, PartialEq, Eq)]
 pub enum Change {
-    Listen(Addr, Result<(), Failed>),
-    Accept(ChanNo, Result<bool, Failed>),
+    /// A listener was made at this address.
+    Listen(Addr),
+    /// A link was accepted from this listener.
+    Accept(ChanId),
+    /// A link to this address was made, and is connected or not yet, or couldn't be.
     Connect(Addr, Result<bool, Failed>),
-    FinishConnect(Result<bool, Failed>),
-    ShutWrite(Result<(), Failed>),
+    /// A link is connected now.
+    FinishConnect,
+    /// The side of a link on which bytes are written was shut.
+    ShutWrite,
+    /// What stood there was closed, or couldn't be connected.
     Close,
     /// A link was taken out.
     TakeOut,
@@ -62,10 +69,11 @@ pub enum Change {
     PutIn,
 }
 
-/// A link stands under a channel from the call that makes it or puts it in until the call that closes it or takes it
-/// out; as long as calls are made only where they are allowed, no other call changes that.
+/// A link stands under a channel from the change that makes it or puts it in until the one that closes it or takes it
+/// out; as long as changes come only where they are allowed, no other change ends that. `IsAllowed` asks less than the
+/// calls of `Net` do.
 pub fn stands_law(before: Place, change: Change)
-    ensures stands { stands (place_after change before) ≡ stands_after change (stands before) }
+    ensures stands { stands (place_after change before) ≡ is_standing (standing_after change) }
     ensures others { moves_link change ≡ false → IsAllowed change before
         → stands (place_after change before) ≡ stands before }
 {}

@@ -1,102 +1,169 @@
-//! The changes of the places of a net, and under which channels a link stands.
-ghost use Rattle.std.specs.Prelude.{◌≡◌, ◌≤◌, nat_lt, max, [], ◌∷◌, ◌++◌, false, IfOk, OnOk, OnErr};
-ghost use Rattle.nio_link.specs.Places.{places_after, stands, stands_after};
+//! The changes of the places of a net, and what stands under each number.
+ghost use Rattle.std.specs.Prelude.{◌≡◌, ◌↔◌, ◌<◌, [], ◌∷◌, ◌++◌, is_none, IfOk, OnOk, OnErr, IsTrue, length};
+ghost use Rattle.std.specs.Prelude.{slice_set, nat_lt};
+ghost use Rattle.nio_link.specs.PlaceLogs.{occupant_at, held_by, occupant_after, present, IsAlone, grown_occupants};
+ghost use Rattle.nio_link.specs.Places.{places_after, standing_after, stands, is_connecting, is_listening, is_there};
+ghost use Rattle.nio_link.specs.Places.{IsVacantNumber};
 
-use crate::net::Failed;
-use crate::place::Change;
-use nio_base::ChanNo;
+use crate::occupants::{Occupant, Occupants};
+use crate::place::{Change, Standing};
+use nio_base::{ChanId, ChanNo};
 use nio_trace::Trace;
 use std::alloc::{AllocError, Global};
 use std::marker::Model;
 
-/// Keeps for each channel below its room whether a link stands there. The list of changes, from which the places of the
-/// net follow, exists in proofs alone; it has the changes of the channels beyond the room too.
+/// Keeps for each number below its room what stands there. The list of changes, from which the places of the net
+/// follow, exists in proofs alone; it has the changes of the numbers beyond the room too.
 #[derive(Drop)]
 pub struct PlaceLog {
-    standing: Vec<bool>,
-    changes: Trace<(ChanNo, Change)>,
+    occupants: Occupants,
+    changes: Trace<(ChanId, Change)>,
 }
 
 impl Model for PlaceLog {
-    ghost use Rattle.std.specs.Prelude.{◌≡◌, false, vec_len};
-    ghost use Rattle.std.specs.List.{slice_index_or};
-    ghost use Rattle.nio_base.specs.declared.numbers.ChanNo.{ChanNo as Channel};
-    ghost use Rattle.nio_link.specs.Places.{places_after, stands};
-    ghost use Rattle.nio_link.specs.PlaceLogs.{LogFields};
+    ghost use Rattle.nio_link.specs.PlaceLogs.{IsLogged, LogFields};
 
     ghost Value = { LogFields };
 
-    ghost view = { λ l. record { changes = l.changes; room = vec_len l.standing } };
+    ghost view = { λ l. record { changes = l.changes; occupants = l.occupants } };
 
-    ghost invariant = { λ l. (c : Channel)
-        → slice_index_or l.standing.items c.0 false ≡ stands (places_after l.changes c) };
+    ghost invariant = { λ l. IsLogged l.occupants l.changes };
 }
 
 impl PlaceLog {
-    /// No change yet, and room for so many channels.
+    /// No change yet, and room for so many numbers.
+    #[tactic(auto, using(crate::proofs::Present::logged_first))]
     pub fn make(alloc: Global, room: usize) -> Result<PlaceLog, AllocError>
         ensures changes { IfOk result (λ log. log.changes ≡ []) }
-        ensures room { IfOk result (λ log. log.room ≡ room) }
+        ensures occupants { IfOk result (λ log. log.occupants ≡ grown_occupants [] room) }
     {
         Ok(PlaceLog {
-            standing: vec![in alloc; false; room]?,
+            occupants: Occupants::make(alloc, room)?,
             changes: Trace::new(),
         })
     }
 
-    /// Adds a call on this channel. Beyond the room no link may come to stand.
-    pub fn push(&mut self, chan: ChanNo, change: Change)
-        requires { self.old.room ≤ chan.0 → stands_after change false ≡ false }
+    /// Adds a change. Nothing may come to stand beyond the room, nor beside what stands under the number.
+    pub fn push(&mut self, chan: ChanId, change: Change)
+        requires alone { IsAlone change (places_after self.old.changes) chan }
+        requires room { IsTrue (is_there (standing_after change)) → chan.number.0 < length self.old.occupants }
         ensures changes { self.new.changes ≡ self.old.changes ++ (chan, change) ∷ [] }
-        ensures room { self.new.room ≡ self.old.room }
+        ensures occupants { self.new.occupants ≡ slice_set self.old.occupants chan.number.0
+            (occupant_after chan.serial (standing_after change) (occupant_at self.old.occupants chan.number)) }
+        ensures same_room { length self.new.occupants ≡ length self.old.occupants }
     {
-        let at = chan.0 as usize;
-        if at < self.standing.len() {
-            self.standing[at] = is_standing_after(change, self.standing[at]);
-        }
+        let before = self.occupants.at(chan.number);
+        let next = next_occupant(chan.serial, standing_after(change), before);
+        self.occupants.set(chan.number, next);
         self.changes.push(&(chan, change));
     }
 
     /// Whether a link stands under this channel.
-    pub fn stands(&self, chan: ChanNo) -> bool
+    #[tactic(auto, using(crate::proofs::Present::standing_present))]
+    pub fn stands(&self, chan: ChanId) -> bool
         ensures { result ≡ stands (places_after self.now.changes chan) }
     {
-        let at = chan.0 as usize;
-        at < self.standing.len() && self.standing[at]
+        matches!(self.standing(chan), Standing::Linked | Standing::Shut)
     }
 
-    /// Whether it has room for this channel.
-    pub fn has(&self, chan: ChanNo) -> bool
-        ensures { result ≡ nat_lt chan.0 self.now.room }
+    /// Whether a link stands there that isn't connected yet.
+    #[tactic(auto, using(crate::proofs::Present::connecting_present))]
+    pub fn is_connecting(&self, chan: ChanId) -> bool
+        ensures { result ≡ is_connecting (places_after self.now.changes chan).standing }
     {
-        (chan.0 as usize) < self.standing.len()
+        matches!(self.standing(chan), Standing::Connecting)
     }
 
-    /// Makes room for the channels below this number.
+    /// Whether a listener stands there.
+    #[tactic(auto, using(crate::proofs::Present::listening_present))]
+    pub fn is_listening(&self, chan: ChanId) -> bool
+        ensures { result ≡ is_listening (places_after self.now.changes chan).standing }
+    {
+        matches!(self.standing(chan), Standing::Listening)
+    }
+
+    /// Whether anything stands there.
+    #[tactic(auto, using(crate::proofs::Present::there_present))]
+    pub fn is_there(&self, chan: ChanId) -> bool
+        ensures { result ≡ is_there (places_after self.now.changes chan).standing }
+    {
+        !matches!(self.standing(chan), Standing::Nothing | Standing::Gone)
+    }
+
+    // What stands under this channel. Of what is gone it knows no more.
+    fn standing(&self, chan: ChanId) -> Standing
+        ensures { result ≡ present (places_after self.now.changes chan).standing }
+    {
+        standing_of(self.occupants.at(chan.number), chan.serial)
+    }
+
+    /// What stands under this number.
+    pub fn occupant(&self, number: ChanNo) -> Option<Occupant>
+        ensures { result ≡ occupant_at self.now.occupants number }
+    {
+        self.occupants.at(number)
+    }
+
+    /// Whether nothing stands under this number.
+    pub fn is_vacant(&self, number: ChanNo) -> bool
+        ensures none { result ≡ is_none (occupant_at self.now.occupants number) }
+        ensures vacant { IsTrue result ↔ IsVacantNumber (places_after self.now.changes) number }
+    {
+        match self.occupants.at(number) {
+            None => true,
+            Some(_) => false,
+        }
+    }
+
+    /// Whether it has room for this number.
+    pub fn has(&self, number: ChanNo) -> bool
+        ensures { result ≡ nat_lt number.0 (length self.now.occupants) }
+    {
+        self.occupants.has(number)
+    }
+
+    /// Makes room for the numbers below this one.
+    #[tactic(auto, using(crate::proofs::Present::logged_grown))]
     pub fn grow(&mut self, room: usize) -> Result<(), AllocError>
-        ensures ok { OnOk result (self.new ≡ record self.old { room = max room self.old.room }) }
+        ensures ok { OnOk result (self.new ≡ record self.old { occupants = grown_occupants self.old.occupants room }) }
         ensures err { OnErr result (self.new ≡ self.old) }
     {
-        let room = room.max(self.standing.len());
-        self.standing.resize(room, false)
+        self.occupants.grow(room)
     }
 }
 
-// Whether a link stands after a call, by whether one stood before.
-fn is_standing_after(change: Change, before: bool) -> bool
-    ensures { result ≡ stands_after change before }
+// How the channel of this serial stands.
+fn standing_of(occupant: Option<Occupant>, serial: u32) -> Standing
+    ensures { result ≡ held_by occupant serial }
+{
+    match occupant {
+        Some(occupant) if occupant.serial == serial => occupant.standing,
+        Some(_) | None => Standing::Nothing,
+    }
+}
+
+// How a channel stands after a change.
+fn standing_after(change: Change) -> Standing
+    ensures { result ≡ standing_after change }
 {
     match change {
-        Change::Listen(_, _) => false,
-        Change::Accept(_, Ok(made)) => made || before,
-        Change::Accept(_, Err(Failed)) => false,
-        Change::Connect(_, Ok(made)) => made,
-        Change::Connect(_, Err(Failed)) => false,
-        Change::FinishConnect(Ok(made)) => made || before,
-        Change::FinishConnect(Err(Failed)) => false,
-        Change::ShutWrite(Ok(())) => true,
-        Change::ShutWrite(Err(Failed)) => before,
-        Change::Close | Change::TakeOut => false,
-        Change::PutIn => true,
+        Change::Listen(_) => Standing::Listening,
+        Change::Connect(_, Ok(false)) => Standing::Connecting,
+        Change::Accept(_) | Change::Connect(_, Ok(true)) => Standing::Linked,
+        Change::FinishConnect | Change::PutIn => Standing::Linked,
+        Change::ShutWrite => Standing::Shut,
+        Change::Connect(_, Err(_)) | Change::Close | Change::TakeOut => Standing::Nothing,
+    }
+}
+
+// What stands under a number, once the channel of this serial stands so.
+fn next_occupant(serial: u32, standing: Standing, before: Option<Occupant>) -> Option<Occupant>
+    ensures { result ≡ occupant_after serial standing before }
+{
+    match standing {
+        Standing::Nothing | Standing::Gone => before.filter(|occupant| occupant.serial != serial),
+        Standing::Listening | Standing::Connecting | Standing::Linked | Standing::Shut => {
+            Some(Occupant { serial, standing })
+        }
     }
 }

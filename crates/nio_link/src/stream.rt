@@ -1,14 +1,13 @@
 //! A link that keeps how far it is connected, and refuses the calls that its state doesn't allow.
-ghost use Rattle.std.specs.Prelude.{◌≡◌, ◌≢◌, [], IsTrue};
-ghost use Rattle.nio_base.specs.Ops.{is_within};
-ghost use Rattle.nio_link.specs.Nets.{view_by};
+ghost use Rattle.std.specs.Prelude.{◌≡◌, ◌≢◌, []};
+ghost use Rattle.nio_link.specs.Nets.{view_of, MayFinish, MayRead, MayWrite};
+ghost use Rattle.nio_link.specs.Places.{IsFree};
 ghost use Rattle.nio_link.specs.Streams.{StandsAs, as_fault, connect_refusal, transfer_refusal, state_after};
 ghost use Rattle.nio_link.specs.Streams.{ConnectClause, FinishClause, ReadClause, WriteClause, CloseClause};
-ghost use Rattle.nio_link.specs.declared.place.Standing.TheVariants as standing;
 ghost use Rattle.nio_link.specs.declared.stream.StreamState.TheVariants as state;
 
 use crate::net::{Failed, Got, Net, Put};
-use nio_base::{Addr, ChanNo};
+use nio_base::{Addr, ChanId};
 use std::marker::Model;
 use thiserror::Error;
 
@@ -48,12 +47,12 @@ pub enum StreamState {
     Closed,
 }
 
-/// A link of a net. Its calls look at its state first: what that refuses doesn't reach the net. What stands under its
-/// channel is what its state says, as long as no other calls are made there. `Net::shut_write` may be called there
-/// where it is connected: it can then still be read.
+/// A link of a net. Its calls look at its state first: what that refuses doesn't reach the net, and asks nothing of what
+/// stands under its channel. What stands there is what its state says, as long as no other calls are made under its
+/// number. `Net::shut_write` may be called there where it is connected: it can then still be read.
 #[derive(Drop)]
 pub struct StreamLink {
-    chan: ChanNo,
+    chan: ChanId,
     state: StreamState,
 }
 
@@ -67,7 +66,7 @@ impl Model for StreamLink {
 
 impl StreamLink {
     /// A link that is to be connected under this channel.
-    pub fn make(chan: ChanNo) -> StreamLink
+    pub fn make(chan: ChanId) -> StreamLink
         ensures { result ≡ record { channel = chan; state = state.Unconnected } }
     {
         StreamLink {
@@ -77,7 +76,7 @@ impl StreamLink {
     }
 
     /// A link that a listener accepted under this channel.
-    pub fn accepted(chan: ChanNo) -> StreamLink
+    pub fn accepted(chan: ChanId) -> StreamLink
         ensures { result ≡ record { channel = chan; state = state.Connected } }
     {
         StreamLink {
@@ -88,12 +87,11 @@ impl StreamLink {
 
     /// Begins to connect. True where it is connected; false where that isn't done yet. A fault closes the link.
     pub fn connect<N: Net>(&mut self, net: &mut N, to: Addr) -> Result<bool, LinkError>
-        requires { StandsAs self.old.state (N.place net.old self.old.channel) }
-        ensures connect { ConnectClause (view_by N.link N.faults N.place N.ready N.poll_faults)
+        requires { self.old.state ≡ state.Unconnected → IsFree (N.place net.old) self.old.channel }
+        ensures connect { ConnectClause (view_of N.Net)
             (connect_refusal self.old.state) to self.old self.new net.old net.new result }
-        ensures stands { StandsAs self.new.state (N.place net.new self.new.channel) }
-        ensures accepted { N.accepted net.new ≡ N.accepted net.old }
-        ensures shown { N.polls net.new ≡ N.polls net.old }
+        ensures stands { StandsAs self.old.state (N.place net.old) self.old.channel
+            → StandsAs self.new.state (N.place net.new) self.new.channel }
     {
         match self.state {
             StreamState::Unconnected => {
@@ -108,13 +106,11 @@ impl StreamLink {
 
     /// Goes on connecting. True where the link is connected; false where that isn't done yet. A fault closes the link.
     pub fn finish_connect<N: Net>(&mut self, net: &mut N) -> Result<bool, LinkError>
-        requires ready { self.old.state ≡ state.Connecting → IsTrue (is_within 8 (N.ready net.old self.old.channel)) }
-        requires stands { StandsAs self.old.state (N.place net.old self.old.channel) }
-        ensures finish { FinishClause (view_by N.link N.faults N.place N.ready N.poll_faults)
+        requires { self.old.state ≡ state.Connecting → MayFinish self.old.channel (view_of N.Net net.old) }
+        ensures finish { FinishClause (view_of N.Net)
             self.old.state self.old self.new net.old net.new result }
-        ensures stands { StandsAs self.new.state (N.place net.new self.new.channel) }
-        ensures accepted { N.accepted net.new ≡ N.accepted net.old }
-        ensures shown { N.polls net.new ≡ N.polls net.old }
+        ensures stands { StandsAs self.old.state (N.place net.old) self.old.channel
+            → StandsAs self.new.state (N.place net.new) self.new.channel }
     {
         match self.state {
             StreamState::Unconnected => Err(LinkError::NoConnectionPending),
@@ -130,13 +126,11 @@ impl StreamLink {
     /// Reads what has come, as far as it fits.
     pub fn read<N: Net>(&mut self, net: &mut N, into: &mut [u8]) -> Result<Got, LinkError>
         requires some { self.old.state ≡ state.Connected → into.old ≢ [] }
-        requires ready { self.old.state ≡ state.Connected → IsTrue (is_within 1 (N.ready net.old self.old.channel)) }
-        requires stands { StandsAs self.old.state (N.place net.old self.old.channel) }
-        ensures read { ReadClause (view_by N.link N.faults N.place N.ready N.poll_faults)
+        requires may { self.old.state ≡ state.Connected → MayRead self.old.channel (view_of N.Net net.old) }
+        ensures read { ReadClause (view_of N.Net)
             (transfer_refusal self.old.state) self.old self.new net.old net.new into.old into.new result }
-        ensures stands { StandsAs self.new.state (N.place net.new self.new.channel) }
-        ensures accepted { N.accepted net.new ≡ N.accepted net.old }
-        ensures shown { N.polls net.new ≡ N.polls net.old }
+        ensures stands { StandsAs self.old.state (N.place net.old) self.old.channel
+            → StandsAs self.new.state (N.place net.new) self.new.channel }
     {
         match self.state {
             StreamState::Unconnected | StreamState::Connecting => Err(LinkError::NotYetConnected),
@@ -148,15 +142,11 @@ impl StreamLink {
     /// Writes bytes, as many as the link takes. The net's link may not have been shut for writing.
     pub fn write<N: Net>(&mut self, net: &mut N, from: &[u8]) -> Result<Put, LinkError>
         requires some { self.old.state ≡ state.Connected → from.now ≢ [] }
-        requires ready { self.old.state ≡ state.Connected → IsTrue (is_within 4 (N.ready net.old self.old.channel)) }
-        requires unshut { self.old.state ≡ state.Connected
-            → (N.place net.old self.old.channel).standing ≡ standing.Linked }
-        requires stands { StandsAs self.old.state (N.place net.old self.old.channel) }
-        ensures write { WriteClause (view_by N.link N.faults N.place N.ready N.poll_faults)
+        requires may { self.old.state ≡ state.Connected → MayWrite self.old.channel (view_of N.Net net.old) }
+        ensures write { WriteClause (view_of N.Net)
             (transfer_refusal self.old.state) self.old self.new net.old net.new from.now result }
-        ensures stands { StandsAs self.new.state (N.place net.new self.new.channel) }
-        ensures accepted { N.accepted net.new ≡ N.accepted net.old }
-        ensures shown { N.polls net.new ≡ N.polls net.old }
+        ensures stands { StandsAs self.old.state (N.place net.old) self.old.channel
+            → StandsAs self.new.state (N.place net.new) self.new.channel }
     {
         match self.state {
             StreamState::Unconnected | StreamState::Connecting => Err(LinkError::NotYetConnected),
@@ -167,12 +157,10 @@ impl StreamLink {
 
     /// Closes the link. False where it was closed before.
     pub fn close<N: Net>(&mut self, net: &mut N) -> bool
-        requires { StandsAs self.old.state (N.place net.old self.old.channel) }
-        ensures close { CloseClause (view_by N.link N.faults N.place N.ready N.poll_faults)
+        ensures close { CloseClause (view_of N.Net)
             self.old.state self.old self.new net.old net.new result }
-        ensures stands { StandsAs self.new.state (N.place net.new self.new.channel) }
-        ensures accepted { N.accepted net.new ≡ N.accepted net.old }
-        ensures shown { N.polls net.new ≡ N.polls net.old }
+        ensures stands { StandsAs self.old.state (N.place net.old) self.old.channel
+            → StandsAs self.new.state (N.place net.new) self.new.channel }
     {
         if self.state == StreamState::Closed {
             return false;

@@ -2,11 +2,9 @@
 //! addresses name nothing. Two clients connect, and the first connection fails once its target has taken ten bytes.
 #![tactic(auto)]
 
-ghost use Rattle.std.specs.Prelude.{◌≡◌, All, IfOk};
-ghost use Rattle.nio_base.specs.declared.numbers.ChanNo.{ChanNo};
-ghost use Rattle.nio_link.specs.Links.{IsUnused};
-ghost use Rattle.nio_link.specs.Places.{places_after, unused};
-ghost use Rattle.nio_link.specs.Slots.{carried_at};
+ghost use Rattle.std.specs.Prelude.{All, IfOk};
+ghost use Rattle.nio_link.specs.MemoryNet.{shown};
+ghost use Rattle.nio_serve.specs.Serving.{IsFresh};
 
 use nio_base::NoGate;
 use nio_bytes::{StdSink, SteadySource};
@@ -56,9 +54,7 @@ fn plan(alloc: Global) -> Result<NetPlan, AllocError> {
 
 /// So many nets to which nobody connects.
 fn nets_of(alloc: Global, count: usize) -> Result<Vec<MemoryNet>, AllocError>
-    ensures fresh { IfOk result (λ nets. All (λ net. (c : ChanNo) → IsUnused (carried_at net.slots c)) nets.items) }
-    ensures unasked { IfOk result (λ nets. All (λ net. (c : ChanNo) → places_after net.changes c ≡ unused)
-        nets.items) }
+    ensures { IfOk result (λ nets. All (λ net. IsFresh (shown net)) nets.items) }
 {
     let mut nets = Vec::new(alloc);
     for _ in 0..count {

@@ -1,10 +1,10 @@
 //! The net over sockets.
-ghost use Rattle.std.specs.Prelude.{◌≡◌, ◌<◌, IfOk, OnOk};
+ghost use Rattle.std.specs.Prelude.{◌≡◌, ◌<◌, ◌≤◌, [], ◌∷◌, ◌++◌, IfOk, OnOk, length};
 
 use crate::bell::MioBell;
 use crate::loose::LooseSocket;
 use crate::sockets::{PLACES, Sockets};
-use nio_base::{Addr, ChanNo, Ops};
+use nio_base::{Addr, ChanId, ChanNo, Ops};
 use nio_history::Mode;
 use nio_kept::{Counts, Readiness, raise};
 use nio_link::{Change, Failed, Got, Net, Passable, PlaceLog, Put};
@@ -16,7 +16,8 @@ use std::sync::Wait;
 use std::time::Clock;
 
 /// A net of TCP sockets over IPv4, for channels numbered below 32,001 until a link is put in beyond them. A call of
-/// `Net` on another number fails. It doesn't show contracts which bytes a link has carried.
+/// `Net` on another number fails. A number that serves again takes no further memory. It doesn't show contracts which
+/// bytes a link has carried.
 #[derive(Drop)]
 pub struct MioNet<S> {
     system: S,
@@ -37,7 +38,6 @@ impl<S: System + Clock + Copy> MioNet<S> {
         ensures faultless { IfOk result (λ made. IsFaultless made.0) }
         ensures unpolled { IfOk result (λ made. IsUnpolled made.0) }
     {
-        let counts = Counts::make(alloc, PLACES)?;
         let log = PlaceLog::make(alloc, PLACES)?;
         let (sockets, bell) = Sockets::make(&system, alloc)?;
         let net = MioNet {
@@ -45,7 +45,7 @@ impl<S: System + Clock + Copy> MioNet<S> {
             sockets,
             readiness: Readiness::new(),
             poll_faults: 0,
-            counts,
+            counts: Counts::new(),
             log,
         };
         Ok((net, bell))
@@ -53,15 +53,41 @@ impl<S: System + Clock + Copy> MioNet<S> {
 }
 
 impl<S> MioNet<S> {
-    // Makes room for this channel and the next, under which the link to the peer is then made.
-    fn make_room(&mut self, chan: ChanNo) -> Result<(), AllocError>
+    // Makes room for this number and the next, under which the link to the peer is then made.
+    fn make_room(&mut self, number: ChanNo) -> Result<(), AllocError>
         ensures changes { self.new.log.changes ≡ self.old.log.changes }
-        ensures room { OnOk result (chan.0 < self.new.log.room) }
+        ensures room { OnOk result (number.0 < length self.new.log.occupants) }
         ensures rest { self.new ≡ record self.old { sockets = self.new.sockets; log = self.new.log } }
     {
-        let places = chan.0 as usize + 2;
+        let places = number.0 as usize + 2;
         self.log.grow(places)?;
         self.sockets.grow(places)
+    }
+}
+
+impl<S> MioNet<S> {
+    ghost use Rattle.nio_base.specs.declared.numbers.ChanId.{ChanId};
+    ghost use Rattle.nio_base.specs.declared.numbers.ChanNo.{ChanNo};
+    ghost use Rattle.nio_bytes.specs.Cause.{Rose};
+    ghost use Rattle.nio_kept.specs.Counts.{count_of};
+    ghost use Rattle.nio_kept.specs.Readiness.{polls_of, ready_of};
+    ghost use Rattle.nio_link.specs.Links.{IsSameBut};
+    ghost use Rattle.nio_link.specs.declared.place.Change.TheVariants as change;
+
+    // A link that couldn't be connected is closed.
+    fn give_up(&mut self, chan: ChanId) -> Failed
+        ensures changes { self.new.log.changes ≡ self.old.log.changes ++ (chan, change.Close) ∷ [] }
+        ensures later { count_of self.old.counts chan ≤ count_of self.new.counts chan }
+        ensures rose { Rose (count_of self.old.counts chan) (count_of self.new.counts chan) }
+        ensures others { IsSameBut chan (count_of self.old.counts) (count_of self.new.counts) }
+        ensures unready { ready_of self.new.readiness chan.number ≡ 0 }
+        ensures ready_else { IsSameBut chan.number (ready_of self.old.readiness) (ready_of self.new.readiness) }
+        ensures shown { polls_of self.new.readiness ≡ polls_of self.old.readiness }
+        ensures polls { self.new.poll_faults ≡ self.old.poll_faults }
+    {
+        self.log.push(chan, Change::Close);
+        self.readiness.forget(chan.number);
+        self.counts.fail(chan)
     }
 }
 
@@ -124,48 +150,47 @@ impl<S: System + Clock + Copy> Net for MioNet<S> {
 
     ghost accepted = { λ m. accepted_by m.log.changes };
 
-    fn listen(&mut self, chan: ChanNo, at: Addr) -> Result<(), Failed> {
-        match self.sockets.listen(&self.system, chan, at) {
+    fn listen(&mut self, chan: ChanId, at: Addr) -> Result<(), Failed> {
+        if !self.log.has(chan.number) {
+            return Err(self.counts.fail(chan));
+        }
+        match self.sockets.listen(&self.system, chan.number, at) {
             Ok(()) => {
-                self.log.push(chan, Change::Listen(at, Ok(())));
+                self.log.push(chan, Change::Listen(at));
+                self.readiness.forget(chan.number);
                 Ok(())
             }
-            Err(Failed) => {
-                self.log.push(chan, Change::Listen(at, Err(Failed)));
-                Err(self.counts.fail(chan))
-            }
+            Err(Failed) => Err(self.counts.fail(chan)),
         }
     }
 
-    fn accept(&mut self, listener: ChanNo, chan: ChanNo) -> Result<bool, Failed> {
-        if !self.log.has(chan) {
-            self.log.push(chan, Change::Accept(listener, Err(Failed)));
+    fn accept(&mut self, listener: ChanId, chan: ChanId) -> Result<bool, Failed> {
+        if !self.log.has(chan.number) {
             return Err(self.counts.fail(listener));
         }
-        match self.sockets.accept(listener, chan) {
+        match self.sockets.accept(listener.number, chan.number) {
             Ok(true) => {
-                self.log.push(chan, Change::Accept(listener, Ok(true)));
+                self.log.push(chan, Change::Accept(listener));
+                self.readiness.forget(chan.number);
                 Ok(true)
             }
             Ok(false) => {
-                self.readiness.take(listener, Ops::ACCEPT);
+                self.readiness.take(listener.number, Ops::ACCEPT);
                 Ok(false)
             }
-            Err(Failed) => {
-                self.log.push(chan, Change::Accept(listener, Err(Failed)));
-                Err(self.counts.fail(listener))
-            }
+            Err(Failed) => Err(self.counts.fail(listener)),
         }
     }
 
-    fn connect(&mut self, chan: ChanNo, to: Addr) -> Result<bool, Failed> {
-        if !self.log.has(chan) {
+    fn connect(&mut self, chan: ChanId, to: Addr) -> Result<bool, Failed> {
+        if !self.log.has(chan.number) {
             self.log.push(chan, Change::Connect(to, Err(Failed)));
             return Err(self.counts.fail(chan));
         }
-        match self.sockets.connect(&self.system, chan, to) {
+        match self.sockets.connect(&self.system, chan.number, to) {
             Ok(connected) => {
                 self.log.push(chan, Change::Connect(to, Ok(connected)));
+                self.readiness.forget(chan.number);
                 Ok(connected)
             }
             Err(Failed) => {
@@ -175,31 +200,27 @@ impl<S: System + Clock + Copy> Net for MioNet<S> {
         }
     }
 
-    fn finish_connect(&mut self, chan: ChanNo) -> Result<bool, Failed> {
-        if !self.log.has(chan) {
-            self.log.push(chan, Change::FinishConnect(Err(Failed)));
-            return Err(self.counts.fail(chan));
+    fn finish_connect(&mut self, chan: ChanId) -> Result<bool, Failed> {
+        if !self.log.has(chan.number) {
+            return Err(self.give_up(chan));
         }
-        match self.sockets.finish_connect(chan) {
+        match self.sockets.finish_connect(chan.number) {
             Ok(true) => {
-                self.log.push(chan, Change::FinishConnect(Ok(true)));
+                self.log.push(chan, Change::FinishConnect);
                 Ok(true)
             }
             Ok(false) => {
-                self.readiness.take(chan, Ops::CONNECT);
+                self.readiness.take(chan.number, Ops::CONNECT);
                 Ok(false)
             }
-            Err(Failed) => {
-                self.log.push(chan, Change::FinishConnect(Err(Failed)));
-                Err(self.counts.fail(chan))
-            }
+            Err(Failed) => Err(self.give_up(chan)),
         }
     }
 
-    fn read(&mut self, chan: ChanNo, into: &mut [u8]) -> Result<Got, Failed> {
-        match self.sockets.read(chan, into) {
+    fn read(&mut self, chan: ChanId, into: &mut [u8]) -> Result<Got, Failed> {
+        match self.sockets.read(chan.number, into) {
             Ok(Got::NotYet) => {
-                self.readiness.take(chan, Ops::READ);
+                self.readiness.take(chan.number, Ops::READ);
                 Ok(Got::NotYet)
             }
             Ok(got) => Ok(got),
@@ -207,10 +228,10 @@ impl<S: System + Clock + Copy> Net for MioNet<S> {
         }
     }
 
-    fn write(&mut self, chan: ChanNo, from: &[u8]) -> Result<Put, Failed> {
-        match self.sockets.write(chan, from) {
+    fn write(&mut self, chan: ChanId, from: &[u8]) -> Result<Put, Failed> {
+        match self.sockets.write(chan.number, from) {
             Ok(Put::NotYet) => {
-                self.readiness.take(chan, Ops::WRITE);
+                self.readiness.take(chan.number, Ops::WRITE);
                 Ok(Put::NotYet)
             }
             Ok(put) => Ok(put),
@@ -218,21 +239,24 @@ impl<S: System + Clock + Copy> Net for MioNet<S> {
         }
     }
 
-    fn shut_write(&mut self, chan: ChanNo) -> Result<(), Failed> {
-        if !self.log.has(chan) {
+    fn shut_write(&mut self, chan: ChanId) -> Result<(), Failed> {
+        if !self.log.has(chan.number) {
             return Err(self.counts.fail(chan));
         }
-        match self.sockets.shut_write(chan) {
+        match self.sockets.shut_write(chan.number) {
             Ok(()) => {
-                self.log.push(chan, Change::ShutWrite(Ok(())));
+                self.log.push(chan, Change::ShutWrite);
                 Ok(())
             }
             Err(Failed) => Err(self.counts.fail(chan)),
         }
     }
 
-    fn close(&mut self, chan: ChanNo) {
-        self.sockets.close(chan);
+    fn close(&mut self, chan: ChanId) {
+        if self.log.is_there(chan) {
+            self.sockets.close(chan.number);
+            self.readiness.forget(chan.number);
+        }
         self.log.push(chan, Change::Close);
     }
 
@@ -249,22 +273,24 @@ impl<S: System + Clock + Copy> Net for MioNet<S> {
 impl<S: System + Clock + Copy> Passable for MioNet<S> {
     type Link = LooseSocket;
 
-    fn take_out(&mut self, chan: ChanNo) -> Option<LooseSocket> {
+    fn take_out(&mut self, chan: ChanId) -> Option<LooseSocket> {
         if !self.log.stands(chan) {
             return None;
         }
         self.log.push(chan, Change::TakeOut);
-        Some(LooseSocket::over(self.sockets.take_out(chan)))
+        self.readiness.forget(chan.number);
+        Some(LooseSocket::over(self.sockets.take_out(chan.number)))
     }
 
     /// Where the system refuses to watch the socket, the next poll tells all that is asked of the channel, and its next
     /// call fails.
-    fn put_in(&mut self, chan: ChanNo, link: LooseSocket) -> Result<(), LooseSocket> {
-        if self.make_room(chan).is_err() {
+    fn put_in(&mut self, chan: ChanId, link: LooseSocket) -> Result<(), LooseSocket> {
+        if self.make_room(chan.number).is_err() {
             return Err(link);
         }
-        self.sockets.put_in(chan, link.into_stream());
+        self.sockets.put_in(chan.number, link.into_stream());
         self.log.push(chan, Change::PutIn);
+        self.readiness.forget(chan.number);
         Ok(())
     }
 }

@@ -1,26 +1,39 @@
--- The channels of a net that was just made.
-use Rattle.std.proofs.Common.{◌≡◌, ℕ, ◌<◌, ◌≤◌, ◌⊎◌, inl, inr, List, replicate, ap, ◌∙◌, arith}
+-- The sockets of the numbers of a net, at first and after each call.
+use Rattle.std.proofs.Common.{◌≡◌, ℕ, ◌<◌, ◌≤◌, ◌⊎◌, inl, inr, List, length, replicate, slice_set, ap, ◌∙◌, get_or-set_other}
+use Rattle.std.proofs.Common.{get_or-set_same}
+use Rattle.std.proofs.lemmas.Bool.{cases_lt}
 use Rattle.std.proofs.lemmas.Grind.{common_steps}
+use Rattle.std.proofs.Common.{arith}
+use Rattle.nio_base.specs.declared.numbers.ChanId.{ChanId}
 use Rattle.nio_base.specs.declared.numbers.ChanNo.{ChanNo}
+use Rattle.nio_link.proofs.Channels.{number_differs}
+use Rattle.nio_link.specs.Links.{IsSameBut}
 use Rattle.nio_datagram.specs.Packets.{no_traffic}
+use Rattle.nio_datagram.specs.Sockets.{Sockets, no_sockets, place_of, traffic_of}
 use Rattle.nio_datagram.specs.declared.net.Place.TheVariants.{Unbound}
-use Rattle.nio_mio_packets.specs.Sides.{no_side, side_at, traffic_at, place_at}
-use Rattle.nio_mio_packets.specs.declared.side.Side.{Side}
+use Rattle.nio_mio_packets.specs.Sides.{place_at, sockets_at, traffic_at}
 
-in_order : (m n : ℕ) → (m < n) ⊎ (n ≤ m)
-in_order m n = grind arith
+fresh_by : (n : ℕ) (k : ChanNo) → (k.0 < n) ⊎ (n ≤ k.0) → sockets_at (replicate n no_sockets) k ≡ no_sockets
+fresh_by n k (inl within) = grind (arith, common_steps)
+fresh_by n k (inr past) = grind (arith, common_steps)
 
-fresh_by : (n : ℕ) (c : ChanNo) → (c.0 < n) ⊎ (n ≤ c.0) → side_at (replicate n no_side) c ≡ no_side
-fresh_by n c (inl within) = grind (arith, common_steps)
-fresh_by n c (inr past) = grind (arith, common_steps)
+fresh_sockets : (n : ℕ) (sides : List Sockets) (k : ChanNo) → sides ≡ replicate n no_sockets
+    → sockets_at sides k ≡ no_sockets
+fresh_sockets n sides k is = ap (λ (xs : List Sockets). sockets_at xs k) is ∙ fresh_by n k (cases_lt k.0 n)
 
-fresh_side : (n : ℕ) (c : ChanNo) → side_at (replicate n no_side) c ≡ no_side
-fresh_side n c = fresh_by n c (in_order c.0 n)
-
-pub fresh_traffic : (n : ℕ) (sides : List Side) (c : ChanNo) → sides ≡ replicate n no_side
+pub fresh_traffic : (n : ℕ) (sides : List Sockets) (c : ChanId) → sides ≡ replicate n no_sockets
     → traffic_at sides c ≡ no_traffic
-fresh_traffic n sides c is = rw (is, fresh_side n c)
+fresh_traffic n sides c is = ap (λ (x : Sockets). traffic_of x c.serial) (fresh_sockets n sides c.number is)
 
-pub fresh_place : (n : ℕ) (sides : List Side) (c : ChanNo) → sides ≡ replicate n no_side → place_at sides c ≡ Unbound
-fresh_place n sides c is =
-    ap (λ (s : Side). s.place) (ap (λ (xs : List Side). side_at xs c) is ∙ fresh_side n c)
+pub fresh_place : (n : ℕ) (sides : List Sockets) (c : ChanId) → sides ≡ replicate n no_sockets
+    → place_at sides c ≡ Unbound
+fresh_place n sides c is = ap (λ (x : Sockets). place_of x c.serial) (fresh_sockets n sides c.number is)
+
+-- the sockets of one number were changed
+pub sockets_here : (sides : List Sockets) (n : ChanNo) (x : Sockets) → n.0 < length sides
+    → sockets_at (slice_set sides n.0 x) n ≡ x
+sockets_here sides n x within = get_or-set_same sides n.0 x no_sockets within
+
+pub sockets_else : (sides : List Sockets) (n : ChanNo) (x : Sockets)
+    → IsSameBut n (sockets_at sides) (sockets_at (slice_set sides n.0 x))
+sockets_else sides n x k differ = get_or-set_other sides n.0 k.0 x no_sockets (number_differs k n differ)

@@ -1,10 +1,10 @@
 //! The net over sockets.
-ghost use Rattle.std.specs.Prelude.{◌≡◌, IfOk};
+ghost use Rattle.std.specs.Prelude.{◌≡◌, ◌<◌, IfOk, IsTrue, length};
 
-use crate::side::{Side, add, new_sides};
+use crate::side::{Side, bind_at, new_sides, receive_at, send_at};
 use crate::sockets::Sockets;
-use nio_base::{Addr, ChanNo, Ops};
-use nio_datagram::{Came, PacketNet, Place};
+use nio_base::{Addr, ChanId, Ops};
+use nio_datagram::{Came, PacketNet};
 use nio_history::Mode;
 use nio_kept::{Counts, Readiness, raise};
 use nio_link::Failed;
@@ -15,8 +15,9 @@ use std::net::Net as System;
 use std::sync::Wait;
 use std::time::Clock;
 
-/// A net of UDP sockets over IPv4, for as many channels as it was made for, numbered from 0. It has no bell: only
-/// packets end a wait. On another number `bind_packets`, `receive` and `send` fail.
+/// A net of UDP sockets over IPv4, for as many numbers of channels as it was made for, from 0 on. It has no bell: only
+/// packets end a wait. On another number `bind_packets`, `receive` and `send` fail. A number that serves again takes no
+/// further memory.
 #[derive(Drop)]
 pub struct MioPackets<S> {
     system: S,
@@ -29,24 +30,23 @@ pub struct MioPackets<S> {
 
 impl<S: System + Clock + Copy> MioPackets<S> {
     ghost use Rattle.nio_mio_packets.specs.Faultless.{IsFaultless, IsUnpolled};
-    ghost use Rattle.nio_mio_packets.specs.Sides.{IsFresh, channels_of};
+    ghost use Rattle.nio_mio_packets.specs.Sides.{IsFresh, numbers_of};
 
     /// A net without sockets. Where the system refuses a poll object, each call of the net that can fail fails.
-    pub fn make(system: S, alloc: Global, channels: usize) -> Result<MioPackets<S>, AllocError>
-        ensures channels { IfOk result (λ net. channels_of net ≡ channels) }
+    pub fn make(system: S, alloc: Global, numbers: usize) -> Result<MioPackets<S>, AllocError>
+        ensures numbers { IfOk result (λ net. numbers_of net ≡ numbers) }
         ensures fresh { IfOk result IsFresh }
         ensures faultless { IfOk result IsFaultless }
         ensures unpolled { IfOk result IsUnpolled }
     {
-        let sides = new_sides(alloc, channels)?;
-        let sockets = Sockets::make(&system, alloc, channels)?;
-        let counts = Counts::make(alloc, channels)?;
+        let sides = new_sides(alloc, numbers)?;
+        let sockets = Sockets::make(&system, alloc, numbers)?;
         Ok(MioPackets {
             system,
             sockets,
             readiness: Readiness::new(),
             poll_faults: 0,
-            counts,
+            counts: Counts::new(),
             sides,
         })
     }
@@ -97,6 +97,19 @@ impl<S: System + Clock + Copy> Poller for MioPackets<S> {
     ghost kept_on = { λ x y z h k. (k.0 ∙ h.0, k.1 ∙ h.1) };
 }
 
+impl<S> MioPackets<S> {
+    ghost use Rattle.nio_mio_packets.specs.Sides.{is_bound_at};
+
+    // Whether the channel has a socket.
+    fn is_bound(&self, chan: ChanId) -> bool
+        ensures bound { result ≡ is_bound_at self.now.sides.items chan }
+        ensures inside { IsTrue result → chan.number.0 < length self.now.sides.items }
+    {
+        let place = chan.number.0 as usize;
+        place < self.sides.len() && self.sides[place].is_bound_as(chan.serial)
+    }
+}
+
 impl<S: System + Clock + Copy> PacketNet for MioPackets<S> {
     ghost use Rattle.std.proofs.Common.{ap};
     ghost use Rattle.nio_kept.specs.Counts.{count_of};
@@ -108,69 +121,67 @@ impl<S: System + Clock + Copy> PacketNet for MioPackets<S> {
 
     ghost place = { λ m. place_there m.sides.items };
 
-    fn bind_packets(&mut self, chan: ChanNo, at: Addr) -> Result<(), Failed> {
-        let place = chan.0 as usize;
-        if place >= self.sides.len() {
+    fn bind_packets(&mut self, chan: ChanId, at: Addr) -> Result<(), Failed> {
+        if chan.number.0 as usize >= self.sides.len() {
             return Err(self.counts.fail(chan));
         }
-        match self.sockets.bind(&self.system, chan, at) {
+        match self.sockets.bind(&self.system, chan.number, at) {
             Ok(()) => {
-                self.sides[place].place = Place::Bound(at);
+                bind_at(&mut self.sides, chan, at);
+                self.readiness.forget(chan.number);
                 Ok(())
             }
             Err(Failed) => Err(self.counts.fail(chan)),
         }
     }
 
-    fn receive(&mut self, chan: ChanNo, into: &mut [u8]) -> Result<Came, Failed> {
-        let place = chan.0 as usize;
-        if place >= self.sides.len() {
+    fn receive(&mut self, chan: ChanId, into: &mut [u8]) -> Result<Came, Failed> {
+        if chan.number.0 as usize >= self.sides.len() {
             return Err(self.counts.fail(chan));
         }
-        match self.sockets.receive(chan, into) {
+        match self.sockets.receive(chan.number, into) {
             Ok(Came::Packet { len, from }) => {
-                add(&mut self.sides[place].came, from, &into[..len]);
+                receive_at(&mut self.sides, chan.number, from, into, len);
                 Ok(Came::Packet { len, from })
             }
             Ok(Came::NotYet) => {
-                self.readiness.take(chan, Ops::READ);
+                self.readiness.take(chan.number, Ops::READ);
                 Ok(Came::NotYet)
             }
             Err(Failed) => Err(self.counts.fail(chan)),
         }
     }
 
-    fn send(&mut self, chan: ChanNo, bytes: &[u8], to: Addr) -> Result<bool, Failed> {
-        let place = chan.0 as usize;
-        if place >= self.sides.len() {
+    fn send(&mut self, chan: ChanId, bytes: &[u8], to: Addr) -> Result<bool, Failed> {
+        if chan.number.0 as usize >= self.sides.len() {
             return Err(self.counts.fail(chan));
         }
-        match self.sockets.send(chan, bytes, to) {
+        match self.sockets.send(chan.number, bytes, to) {
             Ok(true) => {
-                add(&mut self.sides[place].went, to, bytes);
+                send_at(&mut self.sides, chan.number, to, bytes);
                 Ok(true)
             }
             Ok(false) => {
-                self.readiness.take(chan, Ops::WRITE);
+                self.readiness.take(chan.number, Ops::WRITE);
                 Ok(false)
             }
             Err(Failed) => Err(self.counts.fail(chan)),
         }
     }
 
-    fn connect_packets(&mut self, chan: ChanNo, to: Addr) {
-        self.sockets.connect(chan, to);
+    fn connect_packets(&mut self, chan: ChanId, to: Addr) {
+        if self.is_bound(chan) {
+            self.sockets.connect(chan.number, to);
+        }
     }
 
-    fn close_packets(&mut self, chan: ChanNo) {
-        self.sockets.close(chan);
-        let place = chan.0 as usize;
-        if place >= self.sides.len() {
+    fn close_packets(&mut self, chan: ChanId) {
+        if !self.is_bound(chan) {
             return;
         }
-        if let Place::Bound(at) = self.sides[place].place {
-            self.sides[place].place = Place::Closed(at);
-        }
+        self.sockets.close(chan.number);
+        self.sides[chan.number.0 as usize].close(chan.serial);
+        self.readiness.forget(chan.number);
     }
 
     ghost kept_traffic = { λ x y h c. ap (λ sides. traffic_there sides.items c) h.1 };

@@ -1,18 +1,29 @@
--- An accept of a net in memory carries nothing.
-use Rattle.std.proofs.Common.{◌≡◌, Bool, true, Result, Ok, Err, IfOk, OnErr, ap, ◌∙◌}
-use Rattle.nio_base.specs.declared.numbers.ChanNo.{ChanNo}
-use Rattle.nio_link.proofs.MemoryLaws.{accepts}
-use Rattle.nio_link.specs.MemoryNet.{NetState, AreFresh, can_accept, logged, after_accept, after_failed_accept}
-use Rattle.nio_link.specs.Slots.{carried_at}
+-- What an accept of a net in memory leaves of its links.
+use Rattle.std.proofs.Common.{◌≡◌, true, List, [], ◌∷◌, Result, Ok, Err, Bool, IfOk, OnErr, refl}
+use Rattle.std.proofs.lemmas.Bool.{and_parts}
+use Rattle.nio_base.specs.declared.numbers.ChanId.{ChanId}
+use Rattle.nio_bytes.specs.Calls.{after_success}
+use Rattle.nio_link.proofs.MemoryLaws.{free_parts, put_carried}
+use Rattle.nio_link.specs.MemoryLinks.{LinkState}
+use Rattle.nio_link.specs.MemoryNet.{AreFresh, NetState, after_accept, after_failed_accept, can_accept, is_free, with_client}
+use Rattle.nio_link.specs.Places.{is_listening, places_after}
+use Rattle.nio_link.specs.Slots.{ArePast, carried_at}
 use Rattle.nio_link.specs.declared.net.Failed.{Failed}
-use Rattle.nio_link.specs.declared.place.Change.TheVariants as change
 
-module _ (s now : NetState) (listener c : ChanNo) where
-  pub nothing_carried : (result : Result Bool Failed) → AreFresh s.clients
-      → IfOk result (λ _. can_accept s listener c ≡ true)
-      → IfOk result (λ _. now ≡ logged c (change.Accept listener result) (after_accept s listener c))
-      → OnErr result (now ≡ logged c (change.Accept listener result) (after_failed_accept s listener))
-      → (k : ChanNo) → carried_at now.slots k ≡ carried_at s.slots k
-  nothing_carried (Ok made) fresh able ok err k =
-      ap (λ (n : NetState). carried_at n.slots k) ok ∙ (accepts s listener c fresh able).carried k
-  nothing_carried (Err failed) fresh able ok err k = ap (λ (n : NetState). carried_at n.slots k) err
+module _ (s : NetState) (listener c : ChanId) where
+  carried_with : (clients : List LinkState) → AreFresh clients → ArePast s.slots s.past → can_accept s listener c ≡ true
+      → (k : ChanId) → let now = with_client clients listener c (record s { accepts = after_success s.accepts }) in
+      carried_at now.slots now.past k ≡ carried_at s.slots s.past k
+  carried_with [] fresh spent able k = refl
+  carried_with (l ∷ later) fresh spent able k =
+      let can = (and_parts (is_listening (places_after s.changes listener).standing) (is_free s c) able).1 in
+      let parts = free_parts s c can in
+      put_carried s.slots s.past c l parts.0 parts.1 spent fresh.0 k
+
+  -- nothing is carried by it
+  pub accept_carries : (now : NetState) (result : Result Bool Failed) → AreFresh s.clients → ArePast s.slots s.past
+      → IfOk result (λ _. can_accept s listener c ≡ true) → IfOk result (λ _. now ≡ after_accept s listener c)
+      → OnErr result (now ≡ after_failed_accept s listener)
+      → (k : ChanId) → carried_at now.slots now.past k ≡ carried_at s.slots s.past k
+  accept_carries now (Ok made) fresh spent able ok err k = rw ok (carried_with s.clients fresh spent able k)
+  accept_carries now (Err failed) fresh spent able ok err k = rw err refl

@@ -1,11 +1,11 @@
 //! A net in memory by its plan, a stream link by its state, and the calls of a net through its trait.
 ghost use Rattle.std.specs.Prelude.{◌≡◌, ◌≢◌, [], IsTrue};
-ghost use Rattle.nio_link.specs.Places.{places_after, unused, IsLinked};
-ghost use Rattle.nio_link.specs.Streams.{StandsAs};
+ghost use Rattle.nio_link.specs.Places.{places_after, IsFree, IsLinked};
 ghost use Rattle.nio_link.specs.declared.place.Standing.TheVariants as standing;
 ghost use Rattle.nio_link.specs.declared.stream.StreamState.TheVariants as state;
 
-use nio_base::{Addr, CallerNo, ChanNo, Limits};
+use nio_base::{Addr, CallerNo, ChanId, ChanNo, Limits};
+use nio_checked::{CheckedNet, NetError};
 use nio_link::*;
 use nio_poller::Poller;
 use nio_select::{Mode, open_selector, try_begin};
@@ -49,21 +49,28 @@ enum Answer {
     Failed,
 }
 
+/// The first channel of this number.
+fn first(number: u32) -> ChanId
+    ensures { result ≡ record { number = record { 0 = number }; serial = 0 } }
+{
+    ChanId::first(ChanNo(number))
+}
+
 /// Makes a call, and reads into the buffer.
 fn make_call(net: &mut MemoryNet, call: Call, into: &mut [u8]) -> Answer
     requires { into.old ≢ [] }
 {
     match call {
-        Call::Listen(chan) => done(net.listen_on(ChanNo(chan), ANYWHERE)),
-        Call::Accept(listener, chan) => made(net.accept_link(ChanNo(listener), ChanNo(chan))),
-        Call::Connect(chan) => made(net.connect_link(ChanNo(chan), ANYWHERE)),
-        Call::Finish(chan) => made(net.finish_link(ChanNo(chan))),
-        Call::Read(chan) => match net.read_link(ChanNo(chan), into) {
+        Call::Listen(chan) => done(net.listen_on(first(chan), ANYWHERE)),
+        Call::Accept(listener, chan) => made(net.accept_link(first(listener), first(chan))),
+        Call::Connect(chan) => made(net.connect_link(first(chan), ANYWHERE)),
+        Call::Finish(chan) => made(net.finish_link(first(chan))),
+        Call::Read(chan) => match net.read_link(first(chan), into) {
             Ok(got) => Answer::Got(got),
             Err(Failed) => Answer::Failed,
         },
-        Call::Write(chan, text) => written(net, ChanNo(chan), text.as_bytes()),
-        Call::Shut(chan) => done(net.shut_link(ChanNo(chan))),
+        Call::Write(chan, text) => written(net, first(chan), text.as_bytes()),
+        Call::Shut(chan) => done(net.shut_link(first(chan))),
     }
 }
 
@@ -81,7 +88,7 @@ fn made(outcome: Result<bool, Failed>) -> Answer {
     }
 }
 
-fn written(net: &mut MemoryNet, chan: ChanNo, from: &[u8]) -> Answer {
+fn written(net: &mut MemoryNet, chan: ChanId, from: &[u8]) -> Answer {
     if from.is_empty() {
         return Answer::Done;
     }
@@ -153,15 +160,15 @@ fn a_net_in_memory_keeps_its_plan(rt: HostRuntime) -> Result<(), Fail> {
     for (call, wanted) in rows {
         assert!(rt; make_call(&mut net, call, &mut into) == wanted);
     }
-    assert_eq!(rt; net.put_bytes(ChanNo(2)), b"0123456789".as_slice());
-    assert_eq!(rt; net.got_bytes(ChanNo(3)), b"".as_slice());
-    assert!(rt; net.has_ended(ChanNo(3)) && !net.has_ended(ChanNo(1)));
-    assert!(rt; net.is_shut(ChanNo(2)) && !net.is_shut(ChanNo(1)));
+    assert_eq!(rt; net.put_bytes(first(2)), b"0123456789".as_slice());
+    assert_eq!(rt; net.got_bytes(first(3)), b"".as_slice());
+    assert!(rt; net.has_ended(first(3)) && !net.has_ended(first(1)));
+    assert!(rt; net.is_shut(first(2)) && !net.is_shut(first(1)));
     Ok(())
 }
 
 /// Reads until the end, and counts the reads and those that came too early.
-fn reads_to_end(net: &mut MemoryNet, chan: ChanNo) -> (u64, u64) {
+fn reads_to_end(net: &mut MemoryNet, chan: ChanId) -> (u64, u64) {
     let mut reads: u64 = 0;
     let mut early: u64 = 0;
     for _ in 0..1000_u32 {
@@ -182,26 +189,26 @@ fn reads_give_the_pieces(rt: HostRuntime) -> Result<(), Fail> {
     assert!(rt; make_call(&mut net, Call::Listen(0), &mut into) == Answer::Done);
     assert!(rt; make_call(&mut net, Call::Accept(0, 1), &mut into) == Answer::Made(true));
     // The piece of 16385 bytes takes 128 reads of 128 bytes and one of a single byte.
-    assert!(rt; reads_to_end(&mut net, ChanNo(1)) == (131, 1));
-    let bytes = net.got_bytes(ChanNo(1));
+    assert!(rt; reads_to_end(&mut net, first(1)) == (131, 1));
+    let bytes = net.got_bytes(first(1));
     assert!(rt; bytes.len() == 16_388 && bytes.starts_with(b"ax") && bytes.ends_with(b"xbc"));
     Ok(())
 }
 
 /// The calls of a net that need no readiness.
-fn begins<N: Net>(net: &mut N) -> (Result<(), Failed>, Result<bool, Failed>)
-    requires listener { N.place net.old (record { 0 = 0 }) ≡ unused }
-    requires link { N.place net.old (record { 0 = 2 }) ≡ unused }
-{
-    let listens = net.listen(ChanNo(0), ANYWHERE);
-    let connects = net.connect(ChanNo(2), ANYWHERE);
-    net.close(ChanNo(2));
+fn begins<N: Net + Drop>(
+    net: &mut CheckedNet<N>,
+) -> (Result<(), NetError>, Result<bool, NetError>) {
+    let listens = net.listen(first(0), ANYWHERE);
+    let connects = net.connect(first(2), ANYWHERE);
+    net.close(first(2));
     (listens, connects)
 }
 
 #[test]
 fn a_net_in_memory_is_a_net(rt: HostRuntime) -> Result<(), Fail> {
-    let mut net = MemoryNet::make(rt.alloc(), plan(rt.alloc())?)?;
+    let net = MemoryNet::make(rt.alloc(), plan(rt.alloc())?)?;
+    let mut net = CheckedNet::make(rt.alloc(), net, 4)?;
     assert!(rt; begins(&mut net) == (Ok(()), Ok(false)));
     Ok(())
 }
@@ -227,8 +234,7 @@ fn polls_fail_by_the_plan(rt: HostRuntime) -> Result<(), Fail> {
 type Refusals = [Option<LinkError>; 3];
 
 fn unconnected<N: Net>(net: &mut N, link: &mut StreamLink) -> Refusals
-    requires state { link.old.state ≡ state.Unconnected }
-    requires stands { StandsAs link.old.state (N.place net.old link.old.channel) }
+    requires { link.old.state ≡ state.Unconnected }
     ensures link { link.new ≡ link.old }
     ensures net { net.new ≡ net.old }
 {
@@ -239,8 +245,7 @@ fn unconnected<N: Net>(net: &mut N, link: &mut StreamLink) -> Refusals
 }
 
 fn connecting<N: Net>(net: &mut N, link: &mut StreamLink) -> Refusals
-    requires state { link.old.state ≡ state.Connecting }
-    requires stands { StandsAs link.old.state (N.place net.old link.old.channel) }
+    requires { link.old.state ≡ state.Connecting }
     ensures link { link.new ≡ link.old }
     ensures net { net.new ≡ net.old }
 {
@@ -251,8 +256,7 @@ fn connecting<N: Net>(net: &mut N, link: &mut StreamLink) -> Refusals
 }
 
 fn closed<N: Net>(net: &mut N, link: &mut StreamLink) -> Refusals
-    requires state { link.old.state ≡ state.Closed }
-    requires stands { StandsAs link.old.state (N.place net.old link.old.channel) }
+    requires { link.old.state ≡ state.Closed }
     ensures link { link.new ≡ link.old }
     ensures net { net.new ≡ net.old }
 {
@@ -264,8 +268,8 @@ fn closed<N: Net>(net: &mut N, link: &mut StreamLink) -> Refusals
 
 /// What a link answers, with the refusals of its state after each: before it is connected, when that is begun, and
 /// when it is closed.
-fn life<N: Net>(net: &mut N, chan: ChanNo) -> (Refusals, Result<bool, LinkError>, Refusals, bool)
-    requires { N.place net.old chan ≡ unused }
+fn life<N: Net>(net: &mut N, chan: ChanId) -> (Refusals, Result<bool, LinkError>, Refusals, bool)
+    requires { IsFree (N.place net.old) chan }
 {
     let mut link = StreamLink::make(chan);
     let first = unconnected(net, &mut link);
@@ -296,38 +300,38 @@ fn a_stream_link_refuses_by_its_state(rt: HostRuntime) -> Result<(), Fail> {
     ];
     let closed = [Some(LinkError::ClosedChannel); 3];
     let mut net = MemoryNet::make(rt.alloc(), plan(rt.alloc())?)?;
-    assert!(rt; life(&mut net, ChanNo(2)) == (unconnected, Ok(false), connecting, true));
+    assert!(rt; life(&mut net, first(2)) == (unconnected, Ok(false), connecting, true));
     // The net has no such channel, so connecting fails, and closes the link.
     let mut net = MemoryNet::make(rt.alloc(), plan(rt.alloc())?)?;
-    assert!(rt; life(&mut net, ChanNo(9)) == (unconnected, Err(LinkError::Fault), closed, false));
+    assert!(rt; life(&mut net, first(9)) == (unconnected, Err(LinkError::Fault), closed, false));
     Ok(())
 }
 
 /// Accepts the first client, as a net can that was just made.
 #[tactic(auto, using(nio_link::proofs::Changes::changed_here))]
 fn accept_first(net: &mut MemoryNet) -> bool
-    ensures { IsTrue result → (places_after net.new.changes (record { 0 = 1 })).standing ≡ standing.Linked }
+    ensures { IsTrue result → (places_after net.new.changes (record { number = record { 0 = 1 }; serial = 0 })).standing ≡ standing.Linked }
 {
-    let _listens = net.listen_on(ChanNo(0), ANYWHERE);
+    let _listens = net.listen_on(first(0), ANYWHERE);
     // The net's first call of `accept` is not the one that fails.
-    matches!(net.accept_link(ChanNo(0), ChanNo(1)), Ok(true))
+    matches!(net.accept_link(first(0), first(1)), Ok(true))
 }
 
 /// Shuts for writing the link that was accepted first.
 #[tactic(auto, using(nio_link::proofs::Changes::changed_here, crate::proofs::Standings::linked_after_shut))]
 fn shut_first(net: &mut MemoryNet) -> Result<(), Failed>
-    requires { (places_after net.old.changes (record { 0 = 1 })).standing ≡ standing.Linked }
-    ensures { IsLinked (places_after net.new.changes (record { 0 = 1 })).standing }
+    requires { (places_after net.old.changes (record { number = record { 0 = 1 }; serial = 0 })).standing ≡ standing.Linked }
+    ensures { IsLinked (places_after net.new.changes (record { number = record { 0 = 1 }; serial = 0 })).standing }
 {
-    net.shut_link(ChanNo(1))
+    net.shut_link(first(1))
 }
 
 /// What an accepted link answers where it is to be connected.
 fn connected_again<N: Net>(net: &mut N) -> [Result<bool, LinkError>; 2]
-    requires { IsLinked (N.place net.old (record { 0 = 1 })).standing }
+    requires { IsLinked (N.place net.old (record { number = record { 0 = 1 }; serial = 0 })).standing }
     ensures { net.new ≡ net.old }
 {
-    let mut link = StreamLink::accepted(ChanNo(1));
+    let mut link = StreamLink::accepted(first(1));
     let again = link.connect(net, ANYWHERE);
     [again, link.finish_connect(net)]
 }

@@ -1,13 +1,12 @@
 //! A net of the system's sockets: listening, and the ends of its polls.
-ghost use Rattle.std.specs.Prelude.{◌≡◌, IfOk};
-ghost use Rattle.nio_base.specs.declared.numbers.ChanNo.{ChanNo as Channel};
+ghost use Rattle.std.specs.Prelude.{IfOk};
 ghost use Rattle.nio_history.specs.PassViews.{HasNoPin};
-ghost use Rattle.nio_link.specs.Places.{unused};
 ghost use Rattle.nio_words.specs.Passes.{IsReady};
 ghost use Rattle.nio_words.specs.Views.{view};
 
-use nio_base::{Addr, CallerNo, ChanNo, Kind, Limits, Ops};
+use nio_base::{Addr, CallerNo, ChanId, ChanNo, Kind, Limits, Ops};
 use nio_channel::{open_channel, register, set_blocking};
+use nio_checked::CheckedNet;
 use nio_history::Mode;
 use nio_link::Net;
 use nio_mio::{MioBell, MioNet};
@@ -90,21 +89,24 @@ fn ring_late(rt: &HostRuntime, bell: &MioBell) {
     bell.ring();
 }
 
-/// Whether it listens past the places, and at an address that is free, taken, and free again.
-fn listens<N: Net>(net: &mut N, at: Addr) -> [bool; 4]
-    requires { (c : Channel) → N.place net.old c ≡ unused }
-{
-    let past = net.listen(ChanNo(32_001), at).is_ok();
-    let first = net.listen(LINK, at).is_ok();
-    let second = net.listen(ChanNo(1), at).is_ok();
-    net.close(LINK);
-    [past, first, second, net.listen(ChanNo(2), at).is_ok()]
+/// Whether it listens past the places, and at an address that is free, taken, and free again: there under the channel
+/// that was refused.
+fn listens<N: Net + Drop>(net: &mut CheckedNet<N>, at: Addr) -> [bool; 4] {
+    let other = ChanId::first(ChanNo(1));
+    let past = net.listen(ChanId::first(ChanNo(32_001)), at).is_ok();
+    let first = net.listen(ChanId::first(LINK), at).is_ok();
+    if net.listen(other, at).is_ok() {
+        return [past, first, true, false];
+    }
+    net.close(ChanId::first(LINK));
+    [past, first, false, net.listen(other, at).is_ok()]
 }
 
 #[test]
 fn an_address_is_listened_at_once_and_polls_end(rt: HostRuntime) -> Result<(), Fail> {
     let at = free_address(&rt)?;
-    let (mut net, bell) = MioNet::make(rt, rt.alloc())?;
+    let (net, bell) = MioNet::make(rt, rt.alloc())?;
+    let mut net = CheckedNet::make(rt.alloc(), net, 32_002)?;
     assert!(rt; listens(&mut net, at) == [false, true, false, true]);
     let (words, mut p) = table(rt.alloc())?;
     let selection = begin(&rt, rt.alloc(), &words, &mut p)?;

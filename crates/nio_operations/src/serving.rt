@@ -1,13 +1,11 @@
 //! Serving a plan by the operations of a group.
 ghost use Rattle.std.specs.Prelude.{◌≡◌, ◌+◌, ◌*◌, ◌<◌, ◌≤◌, All, IfOk, IfSome, IsSomeAnd, length};
 ghost use Rattle.std.specs.Thread.{IsSync};
-ghost use Rattle.nio_base.specs.declared.numbers.ChanNo.{ChanNo};
-ghost use Rattle.nio_link.specs.Links.{IsUnused};
-ghost use Rattle.nio_link.specs.Places.{unused};
+ghost use Rattle.nio_link.specs.Nets.{view_of};
 ghost use Rattle.nio_jobs.specs.ByJobs.{IsNew, exchange_of};
 ghost use Rattle.nio_pool.specs.Queues.{IsPassOf};
 ghost use Rattle.nio_relay.specs.Plan.{IsServable};
-ghost use Rattle.nio_serve.specs.Serving.{AreNumbered, LeavesNothing, NoneRose, RelaysBytes, Serves, ServesAllOr};
+ghost use Rattle.nio_serve.specs.Serving.{IsFresh, Serves};
 
 use crate::counts::HandledCounts;
 use crate::dispatcher::Dispatcher;
@@ -124,14 +122,8 @@ fn work_all<R: Threads + Wait + Sync, B: Bell + Sync, G: Gate + Sync>(
 
 // What a proxy answers that has no memory to begin.
 fn no_memory<N: Net>(net: &JobNet<N>, plan: ProxyPlan) -> Result<Served, ServeError>
-    requires fresh { (c : ChanNo) → IsUnused (N.link net.now c) }
-    requires unasked { (c : ChanNo) → N.place net.now c ≡ unused }
-    ensures serves { Serves plan (N.link net.now) (N.place net.now) (N.faults net.now) (N.faults net.now)
-        (N.poll_faults net.now) (N.poll_faults net.now) result }
-    ensures relays { RelaysBytes (N.link net.now) }
-    ensures leaves { LeavesNothing plan (N.link net.now) (N.place net.now) }
-    ensures accepts { AreNumbered plan.conns (N.accepted net.now) (N.accepted net.now) result }
-    ensures complete { ServesAllOr plan.conns (N.link net.now) result }
+    requires fresh { IsFresh (view_of N.Net net.now) }
+    ensures { Serves plan (view_of N.Net net.now) (view_of N.Net net.now) result }
 {
     let _ = net;
     Err(ServeError::Memory)
@@ -172,15 +164,8 @@ fn serve_by_jobs<R: Wait, N: Net>(
 ) -> Result<Served, ServeError>
     requires plan { IsServable plan }
     requires pass { IsPassOf shared.now.queue own }
-    requires fresh { (c : ChanNo) → IsUnused (N.link net.old c) }
-    requires unasked { (c : ChanNo) → N.place net.old c ≡ unused }
-    ensures serves { Serves plan (N.link net.new) (N.place net.new) (N.faults net.old) (N.faults net.new)
-        (N.poll_faults net.old) (N.poll_faults net.new) result }
-    ensures relays { RelaysBytes (N.link net.new) }
-    ensures leaves { LeavesNothing plan (N.link net.new) (N.place net.new) }
-    ensures accepts { AreNumbered plan.conns (N.accepted net.old) (N.accepted net.new) result }
-    ensures complete { NoneRose (N.faults net.old) (N.faults net.new) (N.poll_faults net.old) (N.poll_faults net.new)
-        → ServesAllOr plan.conns (N.link net.new) result }
+    requires fresh { IsFresh (view_of N.Net net.old) }
+    ensures { Serves plan (view_of N.Net net.old) (view_of N.Net net.new) result }
 {
     match open_way(rt, alloc, shared, own, plan) {
         Ok(mut way) => serve(rt, alloc, &mut way, net, plan),
@@ -207,15 +192,8 @@ fn dispatch<R: Wait, N: Net>(
 ) -> Result<Served, ServeError>
     requires plan { IsServable plan }
     requires pass { IfSome own.old (IsPassOf shared.now.queue) }
-    requires fresh { (c : ChanNo) → IsUnused (N.link net.old c) }
-    requires unasked { (c : ChanNo) → N.place net.old c ≡ unused }
-    ensures serves { Serves plan (N.link net.new) (N.place net.new) (N.faults net.old) (N.faults net.new)
-        (N.poll_faults net.old) (N.poll_faults net.new) result }
-    ensures relays { RelaysBytes (N.link net.new) }
-    ensures leaves { LeavesNothing plan (N.link net.new) (N.place net.new) }
-    ensures accepts { AreNumbered plan.conns (N.accepted net.old) (N.accepted net.new) result }
-    ensures complete { NoneRose (N.faults net.old) (N.faults net.new) (N.poll_faults net.old) (N.poll_faults net.new)
-        → ServesAllOr plan.conns (N.link net.new) result }
+    requires fresh { IsFresh (view_of N.Net net.old) }
+    ensures { Serves plan (view_of N.Net net.old) (view_of N.Net net.new) result }
 {
     if has_threads {
         shared.streams.await_worker();
@@ -272,15 +250,8 @@ pub fn serve_group<R: Threads + Wait + Sync, N: Net, B: Bell + Sync, G: Gate + S
 ) -> Result<Served, ServeError>
     requires plan { IsServable plan }
     requires workers { (1 ≤ workers) × (workers ≤ 64) }
-    requires fresh { (c : ChanNo) → IsUnused (N.link net.old c) }
-    requires unasked { (c : ChanNo) → N.place net.old c ≡ unused }
-    ensures serves { Serves plan (N.link net.new) (N.place net.new) (N.faults net.old) (N.faults net.new)
-        (N.poll_faults net.old) (N.poll_faults net.new) result }
-    ensures relays { RelaysBytes (N.link net.new) }
-    ensures leaves { LeavesNothing plan (N.link net.new) (N.place net.new) }
-    ensures accepts { AreNumbered plan.conns (N.accepted net.old) (N.accepted net.new) result }
-    ensures complete { NoneRose (N.faults net.old) (N.faults net.new) (N.poll_faults net.old) (N.poll_faults net.new)
-        → ServesAllOr plan.conns (N.link net.new) result }
+    requires fresh { IsFresh (view_of N.Net net.old) }
+    ensures { Serves plan (view_of N.Net net.old) (view_of N.Net net.new) result }
 {
     serve_group_counted(rt, alloc, net, bell, gate, plan, workers).served
 }
@@ -297,15 +268,8 @@ pub fn serve_group_counted<R: Threads + Wait + Sync, N: Net, B: Bell + Sync, G: 
 ) -> CountedServe
     requires plan { IsServable plan }
     requires workers { (1 ≤ workers) × (workers ≤ 64) }
-    requires fresh { (c : ChanNo) → IsUnused (N.link net.old c) }
-    requires unasked { (c : ChanNo) → N.place net.old c ≡ unused }
-    ensures serves { Serves plan (N.link net.new) (N.place net.new) (N.faults net.old) (N.faults net.new)
-        (N.poll_faults net.old) (N.poll_faults net.new) result.served }
-    ensures relays { RelaysBytes (N.link net.new) }
-    ensures leaves { LeavesNothing plan (N.link net.new) (N.place net.new) }
-    ensures accepts { AreNumbered plan.conns (N.accepted net.old) (N.accepted net.new) result.served }
-    ensures complete { NoneRose (N.faults net.old) (N.faults net.new) (N.poll_faults net.old) (N.poll_faults net.new)
-        → ServesAllOr plan.conns (N.link net.new) result.served }
+    requires fresh { IsFresh (view_of N.Net net.old) }
+    ensures { Serves plan (view_of N.Net net.old) (view_of N.Net net.new) result.served }
 {
     let Ok((shared, own, passes)) = SharedGroup::make(alloc, plan, workers) else {
         return CountedServe {

@@ -1,7 +1,7 @@
 //! The proxy by operations over nets that fail: each of the first polls, an accept, a connect and a write.
-use crate::nets::{Peer, net_of, serves};
+use crate::nets::{Peer, channel, net_of, serves};
 use crate::relays::{ONE_OF_TWO_FAILS, SENDER};
-use nio_base::{ChanNo, NoGate};
+use nio_base::{ChanId, NoGate};
 use nio_link::MemoryNet;
 use nio_relay::Served;
 use nio_serve::ServeError;
@@ -68,7 +68,7 @@ const ROWS: [Row; 3] = [
 const POLLS: u64 = 10;
 
 /// Whether what was put on each link of this connection begins what was read from the other.
-fn is_begun(net: &MemoryNet, client: ChanNo, target: ChanNo) -> bool {
+fn is_begun(net: &MemoryNet, client: ChanId, target: ChanId) -> bool {
     net.got_bytes(client).starts_with(net.put_bytes(target))
         && net.got_bytes(target).starts_with(net.put_bytes(client))
 }
@@ -81,7 +81,7 @@ where
     let (served, net) = serves(rt, alloc, net, 2, &NoGate);
     let (name, poll) = (row.name, row.fail_poll);
     assert_eq!(rt; served, row.served, "{name} {poll:?}");
-    let begun = is_begun(&net, ChanNo(1), ChanNo(2)) && is_begun(&net, ChanNo(3), ChanNo(4));
+    let begun = is_begun(&net, channel(1), channel(2)) && is_begun(&net, channel(3), channel(4));
     assert!(rt; begun, "{name} {poll:?}");
     Ok(())
 }

@@ -1,11 +1,11 @@
 //! Nets in memory, and the proxy over them.
 ghost use Rattle.std.specs.Prelude.{◌≡◌, IfOk};
-ghost use Rattle.nio_base.specs.declared.numbers.ChanNo.{ChanNo};
+ghost use Rattle.nio_base.specs.declared.numbers.ChanId.{ChanId};
 ghost use Rattle.nio_link.specs.Links.{IsUnused};
-ghost use Rattle.nio_link.specs.Places.{places_after, unused};
+ghost use Rattle.nio_link.specs.Places.{places_after, never_asked};
 ghost use Rattle.nio_link.specs.Slots.{carried_at};
 
-use nio_base::{Addr, Gate};
+use nio_base::{Addr, ChanId, ChanNo, Gate};
 use nio_link::{JobNet, MemoryNet, NetPlan, PeerPlan};
 use nio_operations::{CountedServe, serve_group_counted};
 use nio_poller::NoBell;
@@ -63,8 +63,8 @@ pub(crate) fn net_of(
     fail_poll: Option<u64>,
     fail_accept: Option<u64>,
 ) -> Result<MemoryNet, AllocError>
-    ensures fresh { IfOk result (λ net. (c : ChanNo) → IsUnused (carried_at net.slots c)) }
-    ensures unasked { IfOk result (λ net. (c : ChanNo) → places_after net.changes c ≡ unused) }
+    ensures fresh { IfOk result (λ net. (c : ChanId) → IsUnused (carried_at net.slots net.past c)) }
+    ensures unasked { IfOk result (λ net. (c : ChanId) → places_after net.changes c ≡ never_asked) }
 {
     let mut plans = Vec::new(alloc);
     for peer in peers {
@@ -86,6 +86,11 @@ pub(crate) fn net_of(
     )
 }
 
+/// The first channel of a number.
+pub(crate) fn channel(number: u32) -> ChanId {
+    ChanId::first(ChanNo(number))
+}
+
 const ANYWHERE: Addr = Addr {
     ip: [127, 0, 0, 1],
     port: 8080,
@@ -99,8 +104,8 @@ pub(crate) fn serves_counted<R: Threads + Wait + Sync, G: Gate + Sync>(
     conns: usize,
     gate: &G,
 ) -> (CountedServe, MemoryNet)
-    requires fresh { (c : ChanNo) → IsUnused (carried_at net.slots c) }
-    requires unasked { (c : ChanNo) → places_after net.changes c ≡ unused }
+    requires fresh { (c : ChanId) → IsUnused (carried_at net.slots net.past c) }
+    requires unasked { (c : ChanId) → places_after net.changes c ≡ never_asked }
 {
     let plan = ProxyPlan {
         listen: ANYWHERE,
@@ -120,8 +125,8 @@ pub(crate) fn serves<R: Threads + Wait + Sync, G: Gate + Sync>(
     conns: usize,
     gate: &G,
 ) -> (Result<Served, ServeError>, MemoryNet)
-    requires fresh { (c : ChanNo) → IsUnused (carried_at net.slots c) }
-    requires unasked { (c : ChanNo) → places_after net.changes c ≡ unused }
+    requires fresh { (c : ChanId) → IsUnused (carried_at net.slots net.past c) }
+    requires unasked { (c : ChanId) → places_after net.changes c ≡ never_asked }
 {
     let (counted, net) = serves_counted(rt, alloc, net, conns, gate);
     (counted.served, net)

@@ -1,6 +1,6 @@
 //! How the proxy by operations ends, and which bytes arrive at both ends.
-use crate::nets::{Peer, SHORT, net_of, serves};
-use nio_base::{ChanNo, NoGate};
+use crate::nets::{Peer, SHORT, channel, net_of, serves};
+use nio_base::{ChanId, NoGate};
 use nio_link::MemoryNet;
 use nio_relay::Served;
 use nio_serve::ServeError;
@@ -159,7 +159,7 @@ const ROWS: &[Row] = &[
 
 /// Whether so many bytes were put on the two links, the first that the other gave, and both links are shut or not. Where
 /// a call fails, the other direction may have carried fewer.
-fn has_arrived(net: &MemoryNet, client: ChanNo, target: ChanNo, peer: &Peer) -> bool {
+fn has_arrived(net: &MemoryNet, client: ChanId, target: ChanId, peer: &Peer) -> bool {
     let at_target = net.put_bytes(target);
     let at_client = net.put_bytes(client);
     at_target.len() == peer.at_target
@@ -178,8 +178,8 @@ fn relays_end_as_written_down(rt: HostRuntime) -> Result<(), Fail> {
         assert_eq!(rt; served, row.served, "{}", row.name);
         let mut client: u32 = 1;
         for peer in row.peers {
-            let target = ChanNo(client.wrapping_add(1));
-            let arrived = has_arrived(&net, ChanNo(client), target, peer);
+            let target = channel(client.wrapping_add(1));
+            let arrived = has_arrived(&net, channel(client), target, peer);
             assert!(rt; arrived, "{}: {client}", row.name);
             client = client.wrapping_add(2);
         }

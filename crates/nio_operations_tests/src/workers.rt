@@ -1,6 +1,6 @@
 //! The workers of a proxy run beside each other, and handle its completions.
-use crate::nets::{Peer, SHORT, net_of, serves, serves_counted};
-use nio_base::{ChanNo, Gate};
+use crate::nets::{Peer, SHORT, channel, net_of, serves, serves_counted};
+use nio_base::Gate;
 use nio_operations::HandledCounts;
 use nio_relay::Served;
 use std::sync::Wait;
@@ -105,7 +105,7 @@ fn workers_handle_what_comes_together(rt: HostRuntime) -> Result<(), Fail> {
     };
     assert_eq!(rt; counted.served, Ok(all));
     for connection in 0..16 {
-        let target = ChanNo(2 * connection + 2);
+        let target = channel(2 * connection + 2);
         assert_eq!(rt; net.put_bytes(target).len(), PIECEMEAL.at_target);
     }
     let HandledCounts {

@@ -1,8 +1,12 @@
 //! The relay of packets over sockets: a client and the relay, each in a thread, and a target.
 ghost use Rattle.std.specs.Prelude.{◌≡◌};
+ghost use Rattle.nio_base.specs.declared.numbers.ChanId.{ChanId as Channel};
+ghost use Rattle.nio_datagram.specs.declared.net.Place.TheVariants.{Unbound};
 
-use nio_base::Addr;
-use nio_datagram::{PacketServeError, PacketsServed, serve_packets};
+use nio_base::{Addr, ChanId, ChanNo};
+use nio_datagram::{
+    DatagramLink, PacketError, PacketNet, PacketServeError, PacketsServed, serve_packets,
+};
 use nio_mio_packets::MioPackets;
 use nio_relay::PacketPlan;
 use std::alloc::{AllocError, Global};
@@ -152,5 +156,43 @@ fn a_refused_port_is_a_fault(rt: HostRuntime) -> Result<(), Fail> {
     );
     sent?;
     assert!(rt; relayed? == Err(PacketServeError::NetFault));
+    Ok(())
+}
+
+/// While the port is taken the system refuses it. Then the same channel is bound there.
+#[test]
+fn a_bind_that_failed_is_made_again(rt: HostRuntime) -> Result<(), Fail> {
+    let taken = UdpSocket::bind(&rt, "127.0.0.1:0")?;
+    let here = at(taken.local_addr()?.port());
+    let mut net = MioPackets::make(rt, rt.alloc(), 1)?;
+    let mut link = DatagramLink::make(ChanId::first(ChanNo(0)));
+    let refused = link.bind(&mut net, here).err();
+    drop(taken);
+    let bound = link.bind(&mut net, here).is_ok();
+    let closed = link.close(&mut net);
+    assert!(rt; refused == Some(PacketError::Fault));
+    assert!(rt; bound && closed);
+    Ok(())
+}
+
+/// Whether a number is bound, and again under the next serial once that is closed.
+fn binds_again<N: PacketNet>(net: &mut N, here: Addr) -> [bool; 2]
+    requires { (c : Channel) → N.place net.old c ≡ Unbound }
+{
+    let first = ChanId::first(ChanNo(0));
+    let bound = net.bind_packets(first, here).is_ok();
+    net.close_packets(first);
+    let second = ChanId {
+        number: ChanNo(0),
+        serial: 1,
+    };
+    [bound, net.bind_packets(second, here).is_ok()]
+}
+
+#[test]
+fn a_number_is_bound_again(rt: HostRuntime) -> Result<(), Fail> {
+    let (port, _other) = free_ports(&rt)?;
+    let mut net = MioPackets::make(rt, rt.alloc(), 1)?;
+    assert!(rt; binds_again(&mut net, at(port)) == [true, true]);
     Ok(())
 }

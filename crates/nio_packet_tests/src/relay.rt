@@ -1,13 +1,13 @@
 //! The relay of packets, as tables.
 ghost use Rattle.std.specs.Prelude.{◌≡◌, IfOk};
-ghost use Rattle.nio_base.specs.declared.numbers.ChanNo.{ChanNo as Channel};
+ghost use Rattle.nio_base.specs.declared.numbers.ChanId.{ChanId as Channel};
 ghost use Rattle.nio_datagram.specs.MemoryPackets.{place_at, traffic_at};
 ghost use Rattle.nio_datagram.specs.Packets.{no_traffic};
 ghost use Rattle.nio_relay.specs.Plan.{IsRelayable};
 ghost use Rattle.nio_datagram.specs.declared.net.Place.TheVariants.{Unbound};
 
 use crate::reluctant::Reluctant;
-use nio_base::{Addr, ChanNo};
+use nio_base::{Addr, ChanId, ChanNo};
 use nio_datagram::{MemoryPackets, PacketServeError, PacketsServed, serve_packets};
 use nio_relay::PacketPlan;
 use std::alloc::{AllocError, Global};
@@ -109,7 +109,7 @@ fn packets(alloc: Global, rows: &[(Addr, &str)]) -> Result<Vec<(Addr, Vec<u8>)>,
 }
 
 /// Whether these packets, and no others, were sent on a channel, all of them to this address.
-fn has_sent(net: &MemoryPackets, chan: ChanNo, to: Addr, wanted: &[&str]) -> bool {
+fn has_sent(net: &MemoryPackets, chan: ChanId, to: Addr, wanted: &[&str]) -> bool {
     if net.went_len(chan) != wanted.len() {
         return false;
     }
@@ -152,8 +152,8 @@ fn is_as_planned(
 ) -> bool {
     let client = row.at_client.first().map_or(CLIENT, |first| first.0);
     answer == row.answer
-        && has_sent(net, ChanNo(1), TARGET, row.to_target)
-        && has_sent(net, ChanNo(0), client, row.to_client)
+        && has_sent(net, ChanId::first(ChanNo(1)), TARGET, row.to_target)
+        && has_sent(net, ChanId::first(ChanNo(0)), client, row.to_client)
 }
 
 fn is_served<R: Wait>(rt: &R, alloc: Global, row: &Row) -> Result<bool, AllocError> {
@@ -198,8 +198,9 @@ fn numbered(alloc: Global, count: u32) -> Result<Vec<(Addr, Vec<u8>)>, AllocErro
 /// How many packets were sent to the target, as far as each has its number.
 fn numbered_to_target(net: &MemoryPackets) -> u32 {
     let mut count: u32 = 0;
-    for place in 0..net.went_len(ChanNo(1)) {
-        if net.went_bytes(ChanNo(1), place) != count.to_le_bytes().as_slice() {
+    let chan = ChanId::first(ChanNo(1));
+    for place in 0..net.went_len(chan) {
+        if net.went_bytes(chan, place) != count.to_le_bytes().as_slice() {
             return count;
         }
         count = count.saturating_add(1);
@@ -219,6 +220,8 @@ fn a_hundred_thousand_packets(rt: HostRuntime) -> Result<(), Fail> {
                 back: 0
             })
     );
-    assert!(rt; numbered_to_target(&net) == 100_000 && net.went_len(ChanNo(1)) == 100_000);
+    assert!(rt;
+        numbered_to_target(&net) == 100_000 && net.went_len(ChanId::first(ChanNo(1))) == 100_000
+    );
     Ok(())
 }

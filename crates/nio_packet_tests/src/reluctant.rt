@@ -6,7 +6,7 @@ ghost use Rattle.nio_kept.specs.Readiness.{ready_of};
 ghost use Rattle.nio_poller.specs.Polls.{CountsFaults, AddsPoll, told_of_channel};
 ghost use Rattle.nio_poller.specs.declared.poller.PollError.TheVariants.{Fault};
 
-use nio_base::{Addr, ChanNo, Ops};
+use nio_base::{Addr, ChanId, Ops};
 use nio_datagram::{Came, Failed, MemoryPackets, PacketNet};
 use nio_history::Mode;
 use nio_kept::Readiness;
@@ -92,23 +92,32 @@ impl PacketNet for Reluctant {
 
     ghost place = { λ s. place_at s.net.sides };
 
-    fn bind_packets(&mut self, chan: ChanNo, at: Addr) -> Result<(), Failed> {
-        self.net.bind_socket(chan, at)
-    }
-
-    fn receive(&mut self, chan: ChanNo, into: &mut [u8]) -> Result<Came, Failed> {
-        let came = self.net.receive_packet(chan, into);
-        if let Ok(Came::NotYet) = &came {
-            self.readiness.take(chan, Ops::READ);
+    fn bind_packets(&mut self, chan: ChanId, at: Addr) -> Result<(), Failed> {
+        match self.net.bind_socket(chan, at) {
+            Ok(()) => {
+                self.readiness.forget(chan.number);
+                Ok(())
+            }
+            Err(_failure) => Err(Failed),
         }
-        came
     }
 
-    fn send(&mut self, chan: ChanNo, bytes: &[u8], to: Addr) -> Result<bool, Failed> {
+    fn receive(&mut self, chan: ChanId, into: &mut [u8]) -> Result<Came, Failed> {
+        match self.net.receive_packet(chan, into) {
+            Ok(Came::NotYet) => {
+                self.readiness.take(chan.number, Ops::READ);
+                Ok(Came::NotYet)
+            }
+            Ok(Came::Packet { len, from }) => Ok(Came::Packet { len, from }),
+            Err(Failed) => Err(Failed),
+        }
+    }
+
+    fn send(&mut self, chan: ChanId, bytes: &[u8], to: Addr) -> Result<bool, Failed> {
         let is_full = self.is_full;
         self.is_full = !is_full;
         if is_full {
-            self.readiness.take(chan, Ops::WRITE);
+            self.readiness.take(chan.number, Ops::WRITE);
             return Ok(false);
         }
         match self.net.send_packet(chan, bytes, to) {
@@ -117,10 +126,14 @@ impl PacketNet for Reluctant {
         }
     }
 
-    fn connect_packets(&mut self, _chan: ChanNo, _to: Addr) {}
+    fn connect_packets(&mut self, _chan: ChanId, _to: Addr) {}
 
-    fn close_packets(&mut self, chan: ChanNo) {
+    fn close_packets(&mut self, chan: ChanId) {
+        let was_bound = self.net.is_bound(chan);
         self.net.close_packets(chan);
+        if was_bound {
+            self.readiness.forget(chan.number);
+        }
     }
 
     ghost kept_traffic = { λ x y kept c. ap (λ sides. traffic_at sides c) kept.sides };

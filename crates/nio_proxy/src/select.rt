@@ -1,14 +1,12 @@
 //! Serving a plan by selections.
-ghost use Rattle.std.specs.Prelude.{◌≡◌};
-ghost use Rattle.nio_base.specs.declared.numbers.ChanNo.{ChanNo};
-ghost use Rattle.nio_link.specs.Links.{IsUnused};
-ghost use Rattle.nio_link.specs.Places.{unused};
+ghost use Rattle.nio_link.specs.Nets.{view_of};
 ghost use Rattle.nio_relay.specs.Plan.{IsServable};
-ghost use Rattle.nio_serve.specs.Serving.{AreNumbered, LeavesNothing, NoneRose, RelaysBytes, Serves, ServesAllOr};
+ghost use Rattle.nio_serve.specs.Serving.{IsFresh, Serves};
 
+use nio_board::Direct;
 use nio_link::Net;
 use nio_relay::{ProxyPlan, Served};
-use nio_serve::{Direct, ServeError, serve};
+use nio_serve::{ServeError, serve};
 use std::alloc::Global;
 use std::sync::Wait;
 
@@ -22,15 +20,8 @@ pub fn serve_select<R: Wait, N: Net>(
     plan: ProxyPlan,
 ) -> Result<Served, ServeError>
     requires plan { IsServable plan }
-    requires fresh { (c : ChanNo) → IsUnused (N.link net.old c) }
-    requires unasked { (c : ChanNo) → N.place net.old c ≡ unused }
-    ensures serves { Serves plan (N.link net.new) (N.place net.new) (N.faults net.old) (N.faults net.new)
-        (N.poll_faults net.old) (N.poll_faults net.new) result }
-    ensures relays { RelaysBytes (N.link net.new) }
-    ensures leaves { LeavesNothing plan (N.link net.new) (N.place net.new) }
-    ensures accepts { AreNumbered plan.conns (N.accepted net.old) (N.accepted net.new) result }
-    ensures complete { NoneRose (N.faults net.old) (N.faults net.new) (N.poll_faults net.old) (N.poll_faults net.new)
-        → ServesAllOr plan.conns (N.link net.new) result }
+    requires fresh { IsFresh (view_of N.Net net.old) }
+    ensures { Serves plan (view_of N.Net net.old) (view_of N.Net net.new) result }
 {
     serve(rt, alloc, &mut Direct, net, plan)
 }

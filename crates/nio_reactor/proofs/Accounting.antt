@@ -1,30 +1,31 @@
 -- Where the links went: from what the lanes show of their lines, once these are settled.
 use Rattle.std.proofs.Common.{◌≡◌, ◌≢◌, ℕ, ◌+◌, ◌<◌, ◌≤◌, inl, inr, ◌⊎◌, Bool, false, IsTrue, IsOk, Ok, Err, Result}
 use Rattle.std.proofs.Common.{Option, Some, None, All, refl, sym, ap, subst, ◌∙◌, List, [], ◌∷◌, ◌++◌, map, length}
-use Rattle.std.proofs.Common.{slice_get, slice_index_or, arith, length-append, add-one, zero, suc}
+use Rattle.std.proofs.Common.{slice_get, slice_index_or, arith, length-append, OnOk}
 use Rattle.std.proofs.lemmas.Bool.{false_from_ne_true}
 use Rattle.std.proofs.lemmas.List.{append-nil, length-map}
-use Rattle.std.proofs.lemmas.Option.{get_or_from_slice_get, slice_get-get_or, slice_get_within}
+use Rattle.std.proofs.lemmas.Option.{get_or_from_slice_get, slice_get_within}
 use Rattle.nio_base.specs.declared.numbers.Addr.{Addr}
-use Rattle.nio_base.specs.declared.numbers.ChanNo.{ChanNo}
+use Rattle.nio_base.specs.declared.numbers.ChanId.{ChanId}
 use Rattle.nio_bytes.specs.Cause.{Rose}
 use Rattle.nio_line.specs.Lines.{End as LineEnd, Exit as LineExit}
 use Rattle.nio_relay.specs.declared.plan.ProxyPlan.{ProxyPlan}
 use Rattle.nio_relay.specs.declared.plan.Served.{Served}
-use Rattle.nio_serve.specs.Serving.{client_of, clients_below}
+use Rattle.nio_link.specs.Nets.{Members}
+use Rattle.nio_serve.specs.Slots.{clients_below}
 use Rattle.nio_serve.specs.declared.serving.ServeError.{ServeError}
 use Rattle.nio_serve.specs.declared.serving.ServeError.TheVariants as serve
-use Rattle.nio_reactor.proofs.Concluding.{at_worker}
-use Rattle.nio_reactor.proofs.Handing.{HasHanded, HaveHanded, firsts, handed_all, has_handed, length_below, none_by}
+use Rattle.nio_reactor.proofs.Clients.{length_below as clients_length}
+use Rattle.nio_reactor.proofs.Concluding.{at_worker, put_in_at}
+use Rattle.nio_reactor.proofs.Handing.{clients_at, handed_all, length_at, none_by, put_is}
 use Rattle.nio_reactor.proofs.Lists.{element}
 use Rattle.nio_reactor.proofs.Settling.{Accounts, accounts, share_grows}
 use Rattle.nio_reactor.specs.Accepting.{HasSent}
 use Rattle.nio_reactor.specs.Dealing.{dealt, number_of, share}
-use Rattle.nio_reactor.specs.Handing.{below, handover, handed_by, put_at, put_below}
-use Rattle.nio_reactor.specs.Handing.{AccountsForLinks, KeepsLinks}
-use Rattle.nio_reactor.specs.Many.{Meanings}
-use Rattle.nio_reactor.specs.Receiving.{AreOwn, AreSettled, HaveReceived, in_hand, is_early, put_number}
-use Rattle.nio_reactor.specs.Working.{Concludes, HasWorked, HaveWorked}
+use Rattle.nio_reactor.specs.Handing.{handed_by, handovers, put_below}
+use Rattle.nio_reactor.specs.Handing.{AccountsForLinks, AreHanded, KeepsLinks}
+use Rattle.nio_reactor.specs.Receiving.{AreOwn, AreSettled, HasReceived, HaveReceived, in_hand, is_early, put_number}
+use Rattle.nio_reactor.specs.Working.{Concludes, HasWorked, HaveWorked, clients_of}
 use Rattle.nio_reactor.specs.declared.handover.Handover.{Handover}
 use Rattle.nio_reactor.specs.declared.heard.Heard.{Heard}
 use Rattle.nio_reactor.specs.declared.heard.Heard.TheVariants as heard
@@ -44,12 +45,8 @@ never_ends : (put : List Handover) → [] ≡ map put_number put ++ None ∷ [] 
 never_ends [] is = absurd (cc)
 never_ends (h ∷ put) is = absurd (cc)
 
-all_put : (w v n conns : ℕ) (put : List Handover) (served : Served) → n ≤ conns → length put ≤ share w v n
-    → HasHanded w v (share w v conns) put (Ok served) → length put ≡ share w v n
-all_put w v n conns put served more few has =
-    let long : length put ≡ share w v conns
-    = ap length has ∙ length-map (below (share w v conns)) (handover w v) ∙ length_below (share w v conns) in
-    omega (arith, long, few, share_grows w v n conns more)
+all_put : (w v n conns k : ℕ) → n ≤ conns → k ≤ share w v n → k ≡ share w v conns → k ≡ share w v n
+all_put w v n conns k more few all = omega (arith, all, few, share_grows w v n conns more)
 
 -- ---- all that the lanes show, of w workers and so many connections, n of which were sent to them
 
@@ -75,7 +72,7 @@ early_hand heard.End is = absurd (cc)
 early_hand heard.Early is = refl
 
 -- what was sent on each line, where nothing was sent before
-pub sent_all : {L : Type 0} (accepted_before accepted_now : List ChanNo) (before now : List (LineEnd (Message L)))
+pub sent_all : {L : Type 0} (accepted_before accepted_now : List ChanId) (before now : List (LineEnd (Message L)))
     (w : ℕ) (has : HasSent accepted_before accepted_now before now) → All (λ e. e.carried ≡ []) before
     → length before ≡ w → (v : ℕ) (e : LineEnd (Message L)) → slice_get now v ≡ Some e
     → map number_of e.carried ≡ dealt w v has.count ++ None ∷ []
@@ -90,12 +87,7 @@ sent_all {L} accepted_before accepted_now before now w has fresh are v e at =
     ∙ ap (λ k. dealt k v has.count ++ None ∷ []) are
 
 -- two counts of the same list are equal
-clients_length : (n : ℕ) → length (clients_below n) ≡ n
-clients_length zero = refl
-clients_length (suc n) =
-    length-append (clients_below n) (client_of n ∷ []) ∙ (ap (λ m. m + 1) (clients_length n) ∙ add-one n)
-
-pub same_count : (before now : List ChanNo) (n o : ℕ) → now ≡ before ++ clients_below n
+pub same_count : (before now : List ChanId) (n o : ℕ) → now ≡ before ++ clients_below n
     → now ≡ before ++ clients_below o → n ≡ o
 same_count before now n o first second =
     let long : length before + length (clients_below n) ≡ length before + length (clients_below o)
@@ -131,61 +123,66 @@ module _ {X L : Type 0} (line : X → LineExit (Message L)) (worker : X → ℕ)
 
   module _ (plan : ProxyPlan) (outcome : X → Result Served ServeError) (before : List X) (before_is : length before ≡ w)
       (received : HaveReceived plan line worker put outcome before lanes) where
-    pub have_handed : HaveHanded plan put outcome before lanes
-    have_handed v x less =
-        let here : v < length lanes = omega (arith, less, before_is, shown.lanes_are) in
-        let y : X = slice_index_or lanes v x in
-        let at : slice_get lanes v ≡ Some y = slice_get-get_or lanes v x here in
-        let acc = accounts_at v y at in
-        subst (λ k. HasHanded k v (share (length before) v plan.conns) (put y) (outcome y)) (sym before_is)
-        (has_handed w v (share (length before) v plan.conns) (put y) (outcome y) (received v x less).clients
-        acc.connections acc.own)
-
-    handed_at : (v : ℕ) (x : X) → slice_get lanes v ≡ Some x → HasHanded w v (share w v plan.conns) (put x) (outcome x)
+    -- what each worker has put in
+    handed_at : (v : ℕ) (x : X) → slice_get lanes v ≡ Some x → put x ≡ handovers w v (clients_of (put x))
     handed_at v x at =
+        let acc = accounts_at v x at in
+        put_is w v (put x) acc.connections acc.own
+
+    handed_here : (k : ℕ) → k ≡ w → put_below put lanes (length lanes) ≡ handed_by k (clients_at put lanes) k
+    handed_here k is =
+        handed_all put lanes w (length lanes) handed_at (omega arith)
+        ∙ ap (λ o. handed_by w (clients_at put lanes) o) shown.lanes_are
+        ∙ ap (λ o. handed_by o (clients_at put lanes) o) (sym is)
+
+    received_at : (v : ℕ) (x : X) → slice_get lanes v ≡ Some x
+        → HasReceived v (share w v plan.conns) (line x) (worker x) (put x) (outcome x)
+    received_at v x at =
         let less : v < length before
         = omega (arith, slice_get_within lanes v x at, shown.lanes_are, before_is) in
-        subst (λ y. HasHanded w v (share w v plan.conns) (put y) (outcome y)) (get_or_from_slice_get lanes v x x at)
-        (subst (λ k. HasHanded k v (share k v plan.conns) (put (slice_index_or lanes v x))
-        (outcome (slice_index_or lanes v x))) before_is (have_handed v x less))
+        subst (λ y. HasReceived v (share w v plan.conns) (line y) (worker y) (put y) (outcome y))
+        (get_or_from_slice_get lanes v x x at)
+        (subst (λ k. HasReceived v (share k v plan.conns) (line (slice_index_or lanes v x))
+        (worker (slice_index_or lanes v x)) (put (slice_index_or lanes v x)) (outcome (slice_index_or lanes v x)))
+        before_is (received v x less))
 
-    module _ {N : Type 0} (m : Meanings N) (net : X → N)
-        (worked : HaveWorked m plan net early outcome before lanes) (few : n ≤ plan.conns) where
+    module _ {N : Type 0} (m : Members N) (net : X → N)
+        (worked : HaveWorked m plan net put early outcome before lanes) (few : n ≤ plan.conns) where
       same_length : length lanes ≡ length before
       same_length = shown.lanes_are ∙ sym before_is
 
       -- all were put in, or a poll failed
       keeps_of : (v : ℕ) (b : X) (target : Addr) (x y : N) (shares : ℕ) (o : Result Served ServeError)
-          → HasWorked m target shares x y (early b) o → HasHanded w v (share w v plan.conns) (put b) o
+          → HasWorked m target shares x y (put b) (early b) o → OnOk o (length (put b) ≡ share w v plan.conns)
           → Accounts w v n (put b) (hand b) → o ≢ Err serve.Memory
-          → (length (put b) ≡ share w v n) ⊎ Rose (m.polls x) (m.polls y)
-      keeps_of v b target x y shares (Ok served) has handed acc lacks =
-          inl (all_put w v n plan.conns (put b) served few acc.few handed)
-      keeps_of v b target x y shares (Err serve.NetFault) has handed acc lacks = elim (has.fault refl) [
+          → (length (put b) ≡ share w v n) ⊎ Rose (m.poll_faults x) (m.poll_faults y)
+      keeps_of v b target x y shares (Ok served) has all acc lacks =
+          inl (all_put w v n plan.conns (length (put b)) few acc.few all)
+      keeps_of v b target x y shares (Err serve.NetFault) has all acc lacks = elim (has.fault refl) [
         | inl is ↦ inl (acc.all (shown.in_time b is).0)
         | inr rose ↦ inr rose
       ]
-      keeps_of v b target x y shares (Err serve.Memory) has handed acc lacks = absurd (lacks refl)
+      keeps_of v b target x y shares (Err serve.Memory) has all acc lacks = absurd (lacks refl)
 
       all_of : (v : ℕ) (b : X) (o : Result Served ServeError) → IsOk o
-          → HasHanded w v (share w v plan.conns) (put b) o → Accounts w v n (put b) (hand b)
-          → length (put b) ≡ share w v n
-      all_of v b (Ok served) ok handed acc = all_put w v n plan.conns (put b) served few acc.few handed
-      all_of v b (Err error) ok handed acc = absurd (cc)
+          → OnOk o (length (put b) ≡ share w v plan.conns) → length (put b) ≡ share w v plan.conns
+      all_of v b (Ok served) ok all = all
+      all_of v b (Err error) ok all = absurd (cc)
 
       keeps : (done : Result (Unit {0}) ManyError) (answer : Result Served ManyError)
           → Concludes done outcome plan.conns lanes answer → (v : ℕ) (b : X) → slice_get lanes v ≡ Some b
-          → (target : Addr) (x y : N) (shares : ℕ) → HasWorked m target shares x y (early b) (outcome b)
-          → KeepsLinks answer (length (put b) ≡ share w v n) (Rose (m.polls x) (m.polls y))
+          → (target : Addr) (x y : N) (shares : ℕ) → HasWorked m target shares x y (put b) (early b) (outcome b)
+          → KeepsLinks answer (length (put b) ≡ share w v n) (Rose (m.poll_faults x) (m.poll_faults y))
       keeps done (Ok served) is v b at target x y shares has =
-          all_of v b (outcome b) (is.1.all v b at) (handed_at v b at) (accounts_at v b at)
+          all_put w v n plan.conns (length (put b)) few (accounts_at v b at).few
+          (all_of v b (outcome b) (is.1.all v b at) (received_at v b at).all)
       keeps done (Err many.NetFault) is v b at target x y shares has =
-          keeps_of v b target x y shares (outcome b) has (handed_at v b at) (accounts_at v b at)
+          keeps_of v b target x y shares (outcome b) has (received_at v b at).all (accounts_at v b at)
           (subst (λ l. outcome l ≢ Err serve.Memory) (get_or_from_slice_get lanes v b b at)
           (is.0 v b (slice_get_within lanes v b at)))
       keeps done (Err many.Memory) is v b at target x y shares has = tt
 
-      pub accounts_for : (accepted_before accepted_now : List ChanNo) (old new : List Handover)
+      pub accounts_for : (accepted_before accepted_now : List ChanId) (old new : List Handover)
           → accepted_now ≡ accepted_before ++ clients_below n → new ≡ old ++ put_below put lanes (length lanes)
           → (done : Result (Unit {0}) ManyError) (answer : Result Served ManyError)
           → Concludes done outcome plan.conns lanes answer
@@ -194,33 +191,56 @@ module _ {X L : Type 0} (line : X → LineExit (Message L)) (worker : X → ℕ)
           let nets : length (map net before) ≡ w = length-map before net ∙ before_is in record {
             count = n;
             accepted = accepted;
-            put = λ v. length (put_at put (slice_get lanes v));
-            handed = new_is ∙ ap (λ l. old ++ l)
-                (handed_all put lanes (length before) (λ v. length (put_at put (slice_get lanes v))) (length lanes)
-                (λ v less. (firsts plan put outcome before lanes same_length have_handed v less).1)
-                ∙ ap (λ k. handed_by k (λ v. length (put_at put (slice_get lanes v))) (length lanes))
-                (before_is ∙ sym nets)
-                ∙ ap (handed_by (length (map net before)) (λ v. length (put_at put (slice_get lanes v))))
-                (shown.lanes_are ∙ sym nets));
+            put = clients_at put lanes;
+            handed = new_is ∙ ap (λ l. old ++ l) (handed_here (length (map net before)) nets);
             few = λ v less.
                 let b = element lanes v (omega (arith, less, nets, shown.lanes_are)) in
-                subst (λ k. length (put_at put (slice_get lanes v)) ≤ share k v n) (sym nets)
-                (subst (λ o. length (put_at put o) ≤ share w v n) (sym b.1) (accounts_at v b.0 b.1).few);
+                subst (λ k. length (clients_at put lanes v) ≤ share k v n) (sym nets)
+                (subst (λ k. k ≤ share w v n) (sym (length_at put lanes v b.0 b.1)) (accounts_at v b.0 b.1).few);
             kept = λ v x y at_x at_y.
-                let has = at_worker m plan net early outcome before lanes same_length worked v x y at_x at_y in
-                subst (λ k. KeepsLinks answer (length (put_at put (slice_get lanes v)) ≡ share k v n)
-                (Rose (m.polls x) (m.polls y))) (sym nets)
-                (subst (λ o. KeepsLinks answer (length (put_at put o) ≡ share w v n) (Rose (m.polls x) (m.polls y)))
-                (sym has.1) (keeps done answer is v has.0 has.1 plan.target x y _ has.2));
+                let has = at_worker m plan net put early outcome before lanes same_length worked v x y at_x at_y in
+                subst (λ k. KeepsLinks answer (length (clients_at put lanes v) ≡ share k v n)
+                (Rose (m.poll_faults x) (m.poll_faults y))) (sym nets)
+                (subst (λ k. KeepsLinks answer (k ≡ share w v n) (Rose (m.poll_faults x) (m.poll_faults y)))
+                (sym (length_at put lanes v has.0 has.1)) (keeps done answer is v has.0 has.1 plan.target x y _ has.2));
+          }
+
+      -- ---- what was handed over
+
+      all_handed : (done : Result (Unit {0}) ManyError) (answer : Result Served ManyError)
+          → Concludes done outcome plan.conns lanes answer → (k : ℕ) → k ≡ w
+          → OnOk answer ((v : ℕ) → v < k → length (clients_at put lanes v) ≡ share k v plan.conns)
+      all_handed done (Ok served) is k k_is = λ v less.
+          let b = element lanes v (omega (arith, less, k_is, shown.lanes_are)) in
+          length_at put lanes v b.0 b.1
+          ∙ all_of v b.0 (outcome b.0) (is.1.all v b.0 b.1) (received_at v b.0 b.1).all
+          ∙ ap (λ o. share o v plan.conns) (sym k_is)
+      all_handed done (Err error) is k k_is = tt
+
+      pub handed_of : (old new : List Handover) → new ≡ old ++ put_below put lanes (length lanes)
+          → (done : Result (Unit {0}) ManyError) (answer : Result Served ManyError)
+          → Concludes done outcome plan.conns lanes answer → AreHanded m plan.conns (map net lanes) old new answer
+      handed_of old new new_is done answer is =
+          let nets : length (map net lanes) ≡ w = length-map lanes net ∙ shown.lanes_are in record {
+            clients = clients_at put lanes;
+            handed = new_is ∙ ap (λ l. old ++ l) (handed_here (length (map net lanes)) nets);
+            few = λ v less.
+                let b = element lanes v (omega (arith, less, nets, shown.lanes_are)) in
+                subst (λ k. length (clients_at put lanes v) ≤ share k v plan.conns) (sym nets)
+                (subst (λ k. k ≤ share w v plan.conns) (sym (length_at put lanes v b.0 b.1))
+                (received_at v b.0 b.1).few);
+            all = all_handed done answer is (length (map net lanes)) nets;
+            put_in = λ v y at.
+                put_in_at m plan net put early outcome before lanes same_length worked v y at;
           }
 
 -- where nothing was done
-pub none_accounted : {N : Type 0} (m : Meanings N) (accepted : List ChanNo) (before now : List N) (old : List Handover)
+pub none_accounted : {N : Type 0} (m : Members N) (accepted : List ChanId) (before now : List N) (old : List Handover)
     → AccountsForLinks m accepted accepted before now old old (Err many.Memory)
 none_accounted m accepted before now old = record {
   count = 0;
   accepted = sym (append-nil accepted);
-  put = λ v. 0;
+  put = λ v. [];
   handed = sym (ap (λ l. old ++ l) (none_by (length before) (length before)) ∙ append-nil old);
   few = λ v less. omega arith;
   kept = λ v x y at_x at_y. tt;

@@ -4,12 +4,11 @@ use Rattle.std.proofs.Common.{length, slice_get, slice_set, get_or, refl, sym, a
 use Rattle.std.proofs.lemmas.Bool.{cases_order}
 use Rattle.std.proofs.lemmas.List.{append-nil, map-append, get_or-set_same, get_or-set_other, length-set}
 use Rattle.std.proofs.lemmas.Option.{get_or_from_slice_get, slice_get-get_or, slice_get_within}
-use Rattle.nio_base.specs.declared.numbers.ChanNo.{ChanNo}
 use Rattle.nio_line.specs.Lines.{End as LineEnd}
+use Rattle.nio_link.specs.Nets.{Members}
 use Rattle.nio_reactor.proofs.Lists.{map_set}
 use Rattle.nio_reactor.specs.Accepting.{Accepts, AreEnded, Deals, EndedBelow, HasSent}
 use Rattle.nio_reactor.specs.Dealing.{dealt, number_of}
-use Rattle.nio_reactor.specs.Many.{Meanings}
 use Rattle.nio_reactor.specs.declared.message.Message.{Message}
 use Rattle.nio_reactor.specs.declared.message.Message.TheVariants.{End}
 
@@ -67,19 +66,18 @@ ended_all {L} k a b was all = record {
       was.ended v x y (omega (arith, slice_get_within a v x at_x, all)) at_x at_y;
 }
 
-pub has_sent : {L N : Type 0} (m : Meanings N) (accepted : N → List ChanNo) (n : ℕ) (x y : N)
-    (a b c : List (LineEnd (Message L))) → Accepts m accepted 0 n x y → Deals 0 n a b → AreEnded b c
-    → HasSent (accepted x) (accepted y) a c
-has_sent {L} m accepted n x y a b c accepts deals ends = record {
-  count = n;
-  accepted = accepts.order (accepted x) (sym (append-nil (accepted x)));
+pub has_sent : {L N : Type 0} (n : Members N) (k : ℕ) (x y : N) (a b c : List (LineEnd (Message L)))
+    → Accepts n 0 k x y → Deals 0 k a b → AreEnded b c → HasSent (n.accepted x) (n.accepted y) a c
+has_sent {L} n k x y a b c accepts deals ends = record {
+  count = k;
+  accepted = accepts.order (n.accepted x) (sym (append-nil (n.accepted x)));
   lines = ends.count ∙ deals.count;
   same = ends.same ∙ deals.same;
   sent = λ v p q at_p at_q.
       let within : v < length b = subst (λ m. v < m) ends.count (slice_get_within c v q at_q) in
       let mid : LineEnd (Message L) = get_or b v p in
       let at_mid : slice_get b v ≡ Some mid = slice_get-get_or b v p within in
-      let sent : map number_of mid.carried ≡ map number_of p.carried ++ dealt (length a) v n
+      let sent : map number_of mid.carried ≡ map number_of p.carried ++ dealt (length a) v k
       = deals.dealt (length a) v p mid (map number_of p.carried) refl at_p at_mid
       (sym (append-nil (map number_of p.carried))) in
       ap (map number_of) (ends.ended v mid q at_mid at_q)

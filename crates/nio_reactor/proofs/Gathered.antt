@@ -27,8 +27,8 @@ use Rattle.nio_reactor.specs.declared.many.ManyError.{ManyError}
 use Rattle.nio_reactor.proofs.Lists.{element, nets_end}
 use Rattle.nio_relay.specs.declared.plan.ProxyPlan.{ProxyPlan}
 use Rattle.nio_relay.specs.declared.plan.Served.{Served}
-use Rattle.nio_serve.specs.Called.{HasRegistered, registrations, seats}
-use Rattle.nio_serve.specs.Serving.{client_of, target_of}
+use Rattle.nio_board.specs.Called.{HasRegistered, registrations, seats}
+use Rattle.nio_serve.specs.Slots.{client_at, target_at}
 use Rattle.nio_serve.specs.declared.serving.ServeError.{ServeError}
 use Rattle.nio_steps.specs.Names.{selector}
 use Rattle.nio_words.specs.Passes.{Holds, IsPassOf, IsReady, acts_seen, limits_of, seen}
@@ -186,9 +186,9 @@ module _ (w conns : ℕ) (p : Pass) (own : (n : CallerNo) → HasOwn w conns p n
     are = λ n. (own n).has.are;
     acceptor = made (caller 0) ∙ (own (caller 0)).own.acceptor refl;
     placed = λ k few. record {
-      client = registered_once k (client_of k) few
+      client = registered_once k (client_at k).number few
           (record { side = 0; one_of_two = omega arith; number = omega arith });
-      target = registered_once k (target_of k) few
+      target = registered_once k (target_at k).number few
           (record { side = 1; one_of_two = omega arith; number = omega arith });
     };
   }

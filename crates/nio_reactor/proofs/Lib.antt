@@ -1,12 +1,15 @@
 pub mod Accounting
 pub mod Adding
 pub mod Asked
+pub mod Clients
 pub mod Concluding
 pub mod Dealing
 pub mod Ending
 pub mod Gathered
 pub mod Handing
+pub mod Listening
 pub mod Lists
+pub mod Nets
 pub mod Placed
 pub mod Received
 pub mod Seating

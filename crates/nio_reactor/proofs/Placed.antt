@@ -11,8 +11,8 @@ use Rattle.nio_base.specs.Numbers.{first_channel}
 use Rattle.nio_base.specs.declared.numbers.ChanId.{ChanId}
 use Rattle.nio_base.specs.declared.numbers.ChanNo.{ChanNo}
 use Rattle.nio_base.specs.declared.numbers.SelNo.{SelNo}
-use Rattle.nio_serve.specs.Called.{channel_in, dealt_channel, seats}
-use Rattle.nio_serve.specs.declared.deal.Deal.{Deal}
+use Rattle.nio_board.specs.Called.{channel_in, dealt_channel, seats}
+use Rattle.nio_board.specs.declared.deal.Deal.{Deal}
 use Rattle.nio_steps.specs.Names.{channel}
 use Rattle.nio_reactor.proofs.Dealing.{share_mine, share_others}
 use Rattle.nio_reactor.specs.Dealing.{share}

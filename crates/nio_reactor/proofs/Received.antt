@@ -1,18 +1,21 @@
 -- What a lane has received on its line.
 use Rattle.std.proofs.Common.{◌≡◌, ℕ, ◌+◌, ◌-◌, ◌<◌, ◌≤◌, inl, inr, ◌⊎◌, Ok, Err, Result, Option, Some, refl, sym, ap}
 use Rattle.std.proofs.Common.{subst, ◌∙◌, List, [], ◌∷◌, ◌++◌, map, length, arith, length-append, IsTrue, IsFalse, Bool, true, false, eqb-true}
-use Rattle.std.proofs.Common.{slice_get}
+use Rattle.std.proofs.Common.{OnOk, slice_get}
 use Rattle.std.proofs.lemmas.Bool.{cases_eq}
-use Rattle.std.proofs.lemmas.List.{append-nil, map_push, nil_from_length}
+use Rattle.std.proofs.lemmas.List.{append-nil, length-map, map_push, nil_from_length}
 use Rattle.std.proofs.lemmas.Option.{same_Some, slice_get_within}
 use mathlib.Core.List.{IsPrefix}
 use Rattle.nio_base.specs.declared.numbers.Addr.{Addr}
+use Rattle.nio_base.specs.declared.numbers.ChanId.{ChanId}
 use Rattle.nio_line.specs.Lines.{End as LineEnd, Exit as LineExit}
-use Rattle.nio_link.specs.Places.{unused}
+use Rattle.nio_link.specs.Places.{never_asked}
 use Rattle.nio_link.specs.declared.place.Place.{Place}
 use Rattle.nio_link.specs.declared.place.Role.TheVariants as role
+use Rattle.nio_link.specs.Nets.{NetView}
+use Rattle.nio_relay.specs.declared.plan.ProxyPlan.{ProxyPlan}
 use Rattle.nio_relay.specs.declared.plan.Served.{Served}
-use Rattle.nio_serve.specs.Serving.{clients_below, AreNumbered, IsAtMost}
+use Rattle.nio_serve.specs.Serving.{listener, Answers, IsAtMost, Serves}
 use Rattle.nio_serve.specs.declared.serving.ServeError.{ServeError}
 use Rattle.nio_reactor.specs.Dealing.{number_of}
 use Rattle.nio_reactor.specs.Doors.{worker_at}
@@ -42,7 +45,7 @@ count_next put now h left after all now_is some after_is was =
 
 -- ---- a lane whose line wasn't listened at
 
-unasked_is : (d : Door) → door_place d ≡ unused → d ≡ door.Unasked
+unasked_is : (d : Door) → door_place d ≡ never_asked → d ≡ door.Unasked
 unasked_is door.Unasked is = refl
 unasked_is (door.Open at) is =
     let same : role.Listener at ≡ role.Nothing = ap (λ (p : Place). p.role) is in absurd (cc)
@@ -54,7 +57,7 @@ pub nothing_came : {M : Type 0} (worker : ℕ) (d : Door) (carried : List M) →
 nothing_came worker d carried unasked at_door = at_door (ap (is_door_of worker) unasked)
 
 -- it begins to listen
-pub opens : {M : Type 0} (worker : ℕ) (d : Door) (carried : List M) → door_place d ≡ unused
+pub opens : {M : Type 0} (worker : ℕ) (d : Door) (carried : List M) → door_place d ≡ never_asked
     → (IsFalse (is_door_of worker d) → length carried ≡ 0) → length carried ≡ 0
 opens worker d carried is at_door = nothing_came worker d carried (unasked_is d is) at_door
 
@@ -75,14 +78,16 @@ module _ {L : Type 0} (v conns worker : ℕ) (d : Door) (line : LineExit (Messag
   -- where it has no connections
   pub received_none : (served : Served) → conns ≡ 0 → HasReceived v conns line worker put (Ok served)
   received_none served none = record {
-    clients = ap (map (λ (h : Handover). h.client)) none_put ∙ ap clients_below (sym none);
+    few = omega (arith, ap length none_put);
+    all = ap length none_put ∙ sym none;
     own = inl none_came;
   }
 
   -- where nothing was done
   pub received_not : (error : ServeError) → HasReceived v conns line worker put (Err error)
   received_not error = record {
-    clients = (0, omega arith, ap (map (λ (h : Handover). h.client)) none_put);
+    few = omega (arith, ap length none_put);
+    all = tt;
     own = inl none_came;
   }
 
@@ -107,16 +112,28 @@ own_line listen worker d carried listens at_door = by_door (is_door_of worker d)
     by_door true is = inr (door_at listen worker d listens is)
     by_door false is = inl (nil_from_length carried (at_door is))
 
-pub received_all : {M : Type 0} (listen : Addr) (conns : ℕ) (old put : List Handover) (line : LineExit M) (worker : ℕ)
-    (d : Door) (result : Result Served ServeError) → old ≡ []
-    → AreNumbered conns (map (λ h. h.client) old) (map (λ h. h.client) put) result
-    → IsAtMost (role.Listener listen) (door_place d).role
+all_served : (plan : ProxyPlan) (clients : List ChanId) (old new : NetView) (result : Result Served ServeError)
+    → Answers plan clients old new result → OnOk result (length clients ≡ plan.conns)
+all_served plan clients old new (Ok served) has = has.all
+all_served plan clients old new (Err error) has = tt
+
+pub received_all : {M : Type 0} (plan : ProxyPlan) (old new : NetView) (before put : List Handover) (line : LineExit M)
+    (worker : ℕ) (d : Door) (result : Result Served ServeError) → before ≡ []
+    → old.accepted ≡ map (λ h. h.client) before → new.accepted ≡ map (λ h. h.client) put
+    → new.place listener ≡ door_place d → (serves : Serves plan old new result)
     → (IsFalse (is_door_of worker d) → length line.carried ≡ 0)
-    → HasReceived (worker_at listen) conns line worker put result
-received_all listen conns old put line worker d result none numbered listens at_door = record {
-  clients = subst (λ l. AreNumbered conns (map (λ h. h.client) l) (map (λ h. h.client) put) result) none numbered;
-  own = own_line listen worker d line.carried listens at_door;
-}
+    → HasReceived (worker_at plan.listen) plan.conns line worker put result
+received_all plan old new before put line worker d result none old_is new_is at_listener serves at_door =
+    let long : length serves.clients ≡ length put
+    = sym (ap length (serves.accepted ∙ ap (λ l. l ++ serves.clients) (old_is ∙ ap (map (λ h. h.client)) none)))
+    ∙ ap length new_is ∙ length-map put (λ (h : Handover). h.client) in
+    record {
+      few = omega (arith, long, serves.within);
+      all = subst (λ k. OnOk result (k ≡ plan.conns)) long
+          (all_served plan serves.clients old new result serves.answers);
+      own = own_line plan.listen worker d line.carried
+          (subst (λ (p : Place). IsAtMost (role.Listener plan.listen) p.role) at_listener serves.leaves.listens) at_door;
+    }
 
 -- ---- the lines are settled one after the other
 

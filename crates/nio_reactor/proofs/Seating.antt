@@ -24,11 +24,11 @@ use Rattle.nio_poller.proofs.Ready.{selector_same}
 use Rattle.nio_reactor.specs.Placing.{caller}
 use Rattle.nio_reactor.specs.Seats.{AreNewcomers, HaveDrawn, HaveSeats, IsHandingOut, IsNewcomer, IsSeat, LeavesSeat}
 use Rattle.nio_reactor.specs.Seats.{channels_for}
-use Rattle.nio_serve.proofs.Calls.{DidCall, IsFree, did_unpinned, only_drawn, unregistered_after}
+use Rattle.nio_board.proofs.Calls.{DidCall, IsFree, did_unpinned, only_drawn, unregistered_after}
 use Rattle.nio_serve.proofs.Watching.{on_ok_any}
-use Rattle.nio_serve.specs.Board.{BoardView, IsIdle, IsSameSeat}
-use Rattle.nio_serve.specs.Called.{HasCalled, IsUnregistered}
-use Rattle.nio_serve.specs.declared.deal.Deal.{Deal}
+use Rattle.nio_board.specs.Board.{BoardView, IsIdle, IsSameSeat}
+use Rattle.nio_board.specs.Called.{HasCalled, IsUnregistered}
+use Rattle.nio_board.specs.declared.deal.Deal.{Deal}
 use Rattle.nio_steps.proofs.PinLaws.{pins_are_given_back}
 use Rattle.nio_steps.specs.Calls.{CallClause}
 use Rattle.nio_steps.specs.ChannelCalls.{open_channel_plan}

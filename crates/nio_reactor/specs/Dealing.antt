@@ -1,6 +1,6 @@
 -- Which connections each worker has, and what is sent to it.
 use Rattle.std.specs.Prelude.{ℕ, zero, suc, ◌%◌, ◌==◌, if◌then◌else◌, Option, Some, None, List, [], ◌∷◌, ◌++◌}
-use Rattle.nio_serve.specs.Serving.{count_below}
+use Rattle.nio_serve.specs.Slots.{count_below}
 use Rattle.nio_reactor.specs.declared.message.Message.{Message}
 use Rattle.nio_reactor.specs.declared.message.Message.TheVariants.{Work, End}
 

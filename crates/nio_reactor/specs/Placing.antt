@@ -13,12 +13,12 @@ use Rattle.nio_orderly.specs.Made.{Made}
 use Rattle.nio_orderly.specs.Orderly.{AreCallsOf}
 use Rattle.nio_reactor.specs.declared.many.ManyError.{ManyError}
 use Rattle.nio_relay.specs.declared.plan.Served.{Served}
-use Rattle.nio_serve.specs.Called.{registrations}
-use Rattle.nio_serve.specs.Serving.{client_of, listener, target_of}
+use Rattle.nio_board.specs.Called.{registrations}
+use Rattle.nio_serve.specs.Serving.{listener}
+use Rattle.nio_serve.specs.Slots.{client_at, target_at}
 use Rattle.nio_steps.specs.Names.{selector}
 use Rattle.nio_words.specs.Passes.{Holds, seen}
 use Rattle.nio_words.specs.declared.words.Pass.{Pass}
-use Rattle.nio_base.specs.Numbers.{first_channel}
 use Rattle.nio_base.specs.declared.numbers.ChanId.{ChanId}
 
 -- the limits of a table for so many workers
@@ -50,13 +50,13 @@ pub record IsRegisteredOnce (calls : CallerNo → List Made) (number : ℕ) (c :
 
 -- connection k is placed: each of its two channels was registered once, by its worker
 pub record IsPlaced (w : ℕ) (calls : CallerNo → List Made) (k : ℕ) : Type 0 where
-  pub client : IsRegisteredOnce calls (k % w + 1) (client_of k)
-  pub target : IsRegisteredOnce calls (k % w + 1) (target_of k)
+  pub client : IsRegisteredOnce calls (k % w + 1) (client_at k).number
+  pub target : IsRegisteredOnce calls (k % w + 1) (target_at k).number
 
 -- Each caller made these whole calls. By them the acceptor registered the listener alone, with its selector, and each
 -- connection below `conns` is placed.
 pub record ArePlaced (w conns : ℕ) (history : List Event) : Type 0 where
   pub calls : CallerNo → List Made
   pub are : (n : CallerNo) → AreCallsOf (table_for w) (mine n history) (calls n)
-  pub acceptor : registrations (calls (caller 0)) ≡ (selector 0, first_channel listener) ∷ []
+  pub acceptor : registrations (calls (caller 0)) ≡ (selector 0, listener) ∷ []
   pub placed : (k : ℕ) → k < conns → IsPlaced w calls k

@@ -1,11 +1,10 @@
 -- What a worker has received on its line.
-use Rattle.std.specs.Prelude.{◌≡◌, ℕ, ◌<◌, ◌⊎◌, ◌==◌, Bool, true, false, Option, Some, None, List, [], ◌∷◌, map, length}
-use Rattle.std.specs.Prelude.{Result, slice_get, slice_index_or}
+use Rattle.std.specs.Prelude.{◌≡◌, ℕ, ◌<◌, ◌≤◌, ◌⊎◌, ◌==◌, Bool, true, false, Option, Some, None, List, [], ◌∷◌, length}
+use Rattle.std.specs.Prelude.{Result, OnOk, slice_get, slice_index_or}
 use mathlib.Core.List.{IsPrefix}
 use Rattle.nio_line.specs.Lines.{End as LineEnd, Exit as LineExit}
 use Rattle.nio_relay.specs.declared.plan.ProxyPlan.{ProxyPlan}
 use Rattle.nio_relay.specs.declared.plan.Served.{Served}
-use Rattle.nio_serve.specs.Serving.{AreNumbered}
 use Rattle.nio_serve.specs.declared.serving.ServeError.{ServeError}
 use Rattle.nio_reactor.specs.Dealing.{share}
 use Rattle.nio_reactor.specs.Doors.{worker_at}
@@ -41,11 +40,12 @@ is_door_of worker door.Unasked = false
 is_door_of worker (door.Open at) = worker_at at == worker
 is_door_of worker (door.Closed at) = worker_at at == worker
 
--- Worker v has put in links under the channels of its connections, in their order. Where something came on the line of
--- its lane, that lane is its own.
+-- Worker v has put in no more links than it has connections, and all where it has served them. Where something came on
+-- the line of its lane, that lane is its own.
 pub record HasReceived {M : Type 0} (v conns : ℕ) (line : LineExit M) (worker : ℕ) (put : List Handover)
     (outcome : Result Served ServeError) : Type 0 where
-  pub clients : AreNumbered conns [] (map (λ h. h.client) put) outcome
+  pub few : length put ≤ conns
+  pub all : OnOk outcome (length put ≡ conns)
   pub own : (line.carried ≡ []) ⊎ (worker ≡ v)
 
 -- every worker has: `line`, `worker`, `put` and `outcome` are what its lane shows

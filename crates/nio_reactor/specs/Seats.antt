@@ -6,10 +6,10 @@ use Rattle.nio_history.specs.PassViews.{HasNoPin}
 use Rattle.nio_history.specs.Histories.{mine}
 use Rattle.nio_relay.specs.declared.plan.ProxyPlan.{ProxyPlan}
 use Rattle.nio_relay.specs.declared.plan.Served.{Served}
-use Rattle.nio_serve.specs.Board.{BoardView}
-use Rattle.nio_serve.specs.Called.{HasCalled, IsUnregistered}
+use Rattle.nio_board.specs.Board.{BoardView}
+use Rattle.nio_board.specs.Called.{HasCalled, IsUnregistered}
 use Rattle.nio_serve.specs.Serving.{listener}
-use Rattle.nio_serve.specs.declared.deal.Deal.{Deal}
+use Rattle.nio_board.specs.declared.deal.Deal.{Deal}
 use Rattle.nio_serve.specs.declared.serving.ServeError.{ServeError}
 use Rattle.nio_steps.specs.Names.{selector}
 use Rattle.nio_words.specs.Passes.{Holds, IsOnly, IsPassOf, IsReady, acts_seen, limits_of, seen}
@@ -58,7 +58,7 @@ deal_of w v conns = record { workers = w; worker = v; listener = record { 0 = 2 
 
 -- that of the acceptor: each channel has its own number
 abbrev pub acceptor_deal : Deal
-acceptor_deal = record { workers = 1; worker = 0; listener = listener }
+acceptor_deal = record { workers = 1; worker = 0; listener = listener.number }
 
 -- how many channels a worker registers for so many connections: its line, where it has any, and two for each
 abbrev pub channels_for : ℕ → ℕ

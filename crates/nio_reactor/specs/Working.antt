@@ -1,50 +1,48 @@
 -- What one worker has come to.
 use Rattle.std.specs.Prelude.{◌≡◌, ◌≢◌, ℕ, ◌<◌, ◌⊎◌, Bool, IsTrue, IfOk, IsOk, Result, Ok, Err, Option, Some}
-use Rattle.std.specs.Prelude.{None, All, option_map, List, length, slice_get, slice_index_or}
+use Rattle.std.specs.Prelude.{None, All, option_map, List, length, map, slice_get, slice_index_or}
 use Rattle.nio_base.specs.declared.numbers.Addr.{Addr}
-use Rattle.nio_base.specs.declared.numbers.ChanNo.{ChanNo}
+use Rattle.nio_base.specs.declared.numbers.ChanId.{ChanId}
 use Rattle.nio_bytes.specs.Cause.{Rose}
-use Rattle.nio_link.specs.Links.{IsUnused}
-use Rattle.nio_link.specs.Places.{unused}
+use Rattle.nio_link.specs.Links.{Link}
+use Rattle.nio_link.specs.Nets.{Members, view_of}
 use Rattle.nio_relay.specs.declared.plan.ProxyPlan.{ProxyPlan}
 use Rattle.nio_relay.specs.declared.plan.Served.{Served}
-use Rattle.nio_serve.specs.Serving.{NoneRose, RelaysBytes, WasClean}
+use Rattle.nio_serve.specs.Serving.{NoneRose, WasClean}
 use Rattle.nio_serve.specs.declared.serving.ServeError.{ServeError}
 use Rattle.nio_serve.specs.declared.serving.ServeError.TheVariants.{NetFault, Memory}
 use Rattle.nio_reactor.specs.Dealing.{share}
-use Rattle.nio_reactor.specs.Many.{Meanings, HasServedPart, LeavesWorker, sum_below}
+use Rattle.nio_reactor.specs.Many.{HasServedPart, RelaysPart, sum_below}
+use Rattle.nio_reactor.specs.declared.handover.Handover.{Handover}
 use Rattle.nio_reactor.specs.declared.many.ManyError.{ManyError}
 use Rattle.nio_reactor.specs.declared.many.ManyError.TheVariants as many
 
--- nothing was carried, and no channel was asked to be anything
-pub record IsFresh {N : Type 0} (m : Meanings N) (net : N) : Type 0 where
-  pub fresh : (c : ChanNo) → IsUnused (m.link net c)
-  pub unasked : (c : ChanNo) → m.place net c ≡ unused
-
 -- every connection was clean
-pub record IsCleanPart {N : Type 0} (m : Meanings N) (conns : ℕ) (net : N) (served : Served) : Type 0 where
+pub record IsCleanPart (clients : List ChanId) (link : ChanId → Link) (served : Served) : Type 0 where
   pub faults : served.faults ≡ 0
-  pub clean : (k : ℕ) → k < conns → WasClean (m.link net) k
+  pub clean : All (WasClean link) clients
 
--- A worker with so many connections to this target has gone from x to y. It was told early that no more links come, or
--- not.
-pub record HasWorked {N : Type 0} (m : Meanings N) (target : Addr) (conns : ℕ) (x y : N) (early : Bool)
-    (outcome : Result Served ServeError) : Type 0 where
+-- under which channels these links were put in
+abbrev pub clients_of : List Handover → List ChanId
+clients_of put = map (λ h. h.client) put
+
+-- A worker with so many connections to this target has gone from x to y, and has put in these links. It was told early
+-- that no more links come, or not.
+pub record HasWorked {N : Type 0} (n : Members N) (target : Addr) (conns : ℕ) (x y : N) (put : List Handover)
+    (early : Bool) (outcome : Result Served ServeError) : Type 0 where
+  pub relays : RelaysPart target conns (clients_of put) (view_of n y)
   pub serves : IfOk outcome (λ served.
-      HasServedPart target conns (m.link y) (m.place y) (m.faults x) (m.faults y) served.faults)
-  pub fault : outcome ≡ Err NetFault → IsTrue early ⊎ Rose (m.polls x) (m.polls y)
-  pub leaves : LeavesWorker target conns (m.link y) (m.place y)
-  pub relays : RelaysBytes (m.link y)
-  pub complete : NoneRose (m.faults x) (m.faults y) (m.polls x) (m.polls y)
-      → IfOk outcome (IsCleanPart m conns y)
+      HasServedPart target conns (clients_of put) (view_of n x) (view_of n y) served.faults)
+  pub fault : outcome ≡ Err NetFault → IsTrue early ⊎ Rose (n.poll_faults x) (n.poll_faults y)
+  pub complete : NoneRose (view_of n x) (view_of n y) → IfOk outcome (IsCleanPart (clients_of put) (n.link y))
 
--- Every worker has: `net`, `early` and `outcome` are what its lane shows.
-abbrev pub HaveWorked : {X N : Type 0} → Meanings N → ProxyPlan → (X → N) → (X → Bool)
+-- Every worker has: `net`, `put`, `early` and `outcome` are what its lane shows.
+abbrev pub HaveWorked : {X N : Type 0} → Members N → ProxyPlan → (X → N) → (X → List Handover) → (X → Bool)
     → (X → Result Served ServeError) → List X → List X → Type 0
-HaveWorked {X} m plan net early outcome before now =
-    (v : ℕ) (x : X) → v < length before → HasWorked m plan.target (share (length before) v plan.conns)
-    (net (slice_index_or before v x)) (net (slice_index_or now v x)) (early (slice_index_or now v x))
-    (outcome (slice_index_or now v x))
+HaveWorked {X} n plan net put early outcome before now =
+    (v : ℕ) (x : X) → v < length before → HasWorked n plan.target (share (length before) v plan.conns)
+    (net (slice_index_or before v x)) (net (slice_index_or now v x)) (put (slice_index_or now v x))
+    (early (slice_index_or now v x)) (outcome (slice_index_or now v x))
 
 -- how many of a worker's connections had a fault, where it has served them
 abbrev pub faults_of : Option (Result Served ServeError) → ℕ

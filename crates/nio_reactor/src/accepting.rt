@@ -1,16 +1,16 @@
 //! The selector that accepts.
-ghost use Rattle.std.specs.Prelude.{◌≡◌, ◌≢◌, ℕ, ◌<◌, ◌≤◌, ◌+◌, ◌⊎◌, Err, IfOk, IsTrue, IsFalse, OnOk, OnErr, length};
+ghost use Rattle.std.specs.Prelude.{◌≡◌, ℕ, ◌<◌, ◌≤◌, ◌+◌, ◌⊎◌, Err, IfOk, IsTrue, IsFalse, OnOk, OnErr, length};
 ghost use Rattle.nio_base.specs.declared.numbers.ChanNo.{ChanNo as Channel};
 ghost use Rattle.nio_bytes.specs.Cause.{Rose};
-ghost use Rattle.nio_link.specs.Links.{IsUnused};
-ghost use Rattle.nio_link.specs.Places.{unused};
+ghost use Rattle.nio_link.specs.Nets.{view_of};
 ghost use Rattle.nio_link.specs.declared.place.Standing.TheVariants.{Listening};
 ghost use Rattle.nio_relay.specs.Plan.{IsServable};
-ghost use Rattle.nio_serve.specs.Board.{AreReady, IsSameBoard, IsSameSeat};
-ghost use Rattle.nio_serve.specs.Serving.{client_of, clients_below, listener};
+ghost use Rattle.nio_board.specs.Board.{AreReady, IsSameBoard, IsSameSeat};
+ghost use Rattle.nio_serve.specs.Serving.{listener, IsFresh};
+ghost use Rattle.nio_serve.specs.Slots.{clients_below};
 ghost use Rattle.nio_base.specs.Ops.{is_within};
 ghost use Rattle.nio_reactor.specs.Accepting.{Accepts, AreEnded, Deals, HasAccepted, HasSent, IsAccepting};
-ghost use Rattle.nio_reactor.specs.Many.{meanings, LeavesAcceptor};
+ghost use Rattle.nio_reactor.specs.Many.{LeavesAcceptor};
 ghost use Rattle.nio_reactor.specs.Placing.{caller};
 ghost use Rattle.nio_reactor.specs.Seats.{IsNewcomer, LeavesSeat, acceptor_deal};
 ghost use Rattle.nio_reactor.specs.declared.many.ManyError.TheVariants.{NetFault};
@@ -20,11 +20,11 @@ use crate::many::ManyError;
 use crate::message::{Message, Outgoing};
 use crate::table::{ACCEPTOR, acceptor_share, leave_seat, take_seat};
 use nio_base::{ChanNo, Kind, Ops};
+use nio_board::{Board, Direct};
 use nio_line::LineIn;
 use nio_link::{Failed, Net, Passable};
 use nio_poller::{Bell, PollError};
 use nio_relay::ProxyPlan;
-use nio_serve::{Board, Direct};
 use nio_words::{Pass, Words};
 use std::alloc::Global;
 use std::sync::Wait;
@@ -59,26 +59,24 @@ fn accept_one<R: Wait, N: Passable, B: Bell>(
     bells: &[B],
     number: u32,
 ) -> Result<bool, Failed>
-    requires ready { IsTrue (is_within 16 (N.ready net.old listener)) }
+    requires ready { IsTrue (is_within 16 (N.ready net.old listener.number)) }
     requires listens { (N.place net.old listener).standing ≡ Listening }
-    requires accepting { IsAccepting (meanings N.link N.place N.faults N.poll_faults) number net.old }
+    requires accepting { IsAccepting N.Net number net.old }
     requires few { number < 16000 }
     requires some { 0 < length lines.old }
     ensures listens { N.place net.new listener ≡ N.place net.old listener }
-    ensures asked { IsAccepting (meanings N.link N.place N.faults N.poll_faults) (number + 1) net.new }
-    ensures early { IfOk result (λ more. IsFalse more
-        → IsAccepting (meanings N.link N.place N.faults N.poll_faults) number net.new) }
-    ensures accepted { IfOk result (λ more. IsTrue more
-        → Accepts (meanings N.link N.place N.faults N.poll_faults) N.accepted number (number + 1) net.old net.new) }
-    ensures still { IfOk result (λ more. IsFalse more
-        → Accepts (meanings N.link N.place N.faults N.poll_faults) N.accepted number number net.old net.new) }
-    ensures failed { OnErr result
-        (Accepts (meanings N.link N.place N.faults N.poll_faults) N.accepted number number net.old net.new) }
+    ensures come { IfOk result (λ more. IsTrue more → IsAccepting N.Net (number + 1) net.new) }
+    ensures early { IfOk result (λ more. IsFalse more → IsAccepting N.Net number net.new) }
+    ensures failing { OnErr result (IsAccepting N.Net number net.new) }
+    ensures accepted { IfOk result (λ more. IsTrue more → Accepts N.Net number (number + 1) net.old net.new) }
+    ensures still { IfOk result (λ more. IsFalse more → Accepts N.Net number number net.old net.new) }
+    ensures failed { OnErr result (Accepts N.Net number number net.old net.new) }
     ensures dealt { IfOk result (λ more. IsTrue more → Deals number (number + 1) lines.old lines.new) }
     ensures undealt { IfOk result (λ more. IsFalse more → lines.new ≡ lines.old) }
     ensures unsent { OnErr result (lines.new ≡ lines.old) }
     ensures cause { OnErr result (Rose (N.faults net.old listener) (N.faults net.new listener)) }
-    ensures more { IfOk result (λ more. IsTrue more → N.ready net.new listener ≡ N.ready net.old listener) }
+    ensures more { IfOk result (λ more. IsTrue more → N.ready net.new listener.number
+        ≡ N.ready net.old listener.number) }
 {
     let Some(handed) = accept_link(net, number)? else {
         return Ok(false);
@@ -96,18 +94,15 @@ fn accept_come<R: Wait, N: Passable, B: Bell>(
     number: &mut u32,
     conns: u32,
 ) -> Result<(), ManyError>
-    requires ready { IsTrue (is_within 16 (N.ready net.old listener)) }
+    requires ready { IsTrue (is_within 16 (N.ready net.old listener.number)) }
     requires listens { (N.place net.old listener).standing ≡ Listening }
-    requires accepting { IsAccepting (meanings N.link N.place N.faults N.poll_faults) number.old net.old }
+    requires accepting { IsAccepting N.Net number.old net.old }
     requires few { (number.old ≤ conns) × (conns ≤ 16000) }
     requires some { 0 < length lines.old }
     ensures listens { N.place net.new listener ≡ N.place net.old listener }
     ensures within { number.new ≤ conns }
-    ensures asked { IsAccepting (meanings N.link N.place N.faults N.poll_faults) conns net.new }
-    ensures accepting { OnOk result
-        (IsAccepting (meanings N.link N.place N.faults N.poll_faults) number.new net.new) }
-    ensures accepted { Accepts (meanings N.link N.place N.faults N.poll_faults) N.accepted number.old number.new
-        net.old net.new }
+    ensures accepting { IsAccepting N.Net number.new net.new }
+    ensures accepted { Accepts N.Net number.old number.new net.old net.new }
     ensures dealt { Deals number.old number.new lines.old lines.new }
     ensures cause { result ≡ Err NetFault → Rose (N.faults net.old listener) (N.faults net.new listener) }
 {
@@ -146,16 +141,13 @@ fn round<R: Wait, N: Passable, B: Bell>(
     told: &mut Vec<(ChanNo, Ops)>,
 ) -> Result<(), ManyError>
     requires listens { (N.place net.old listener).standing ≡ Listening }
-    requires accepting { IsAccepting (meanings N.link N.place N.faults N.poll_faults) number.old net.old }
+    requires accepting { IsAccepting N.Net number.old net.old }
     requires few { (number.old ≤ conns) × (conns ≤ 16000) }
     requires some { 0 < length lines.old }
     ensures listens { N.place net.new listener ≡ N.place net.old listener }
     ensures within { number.new ≤ conns }
-    ensures asked { IsAccepting (meanings N.link N.place N.faults N.poll_faults) conns net.new }
-    ensures accepting { OnOk result
-        (IsAccepting (meanings N.link N.place N.faults N.poll_faults) number.new net.new) }
-    ensures accepted { Accepts (meanings N.link N.place N.faults N.poll_faults) N.accepted number.old number.new
-        net.old net.new }
+    ensures accepting { IsAccepting N.Net number.new net.new }
+    ensures accepted { Accepts N.Net number.old number.new net.old net.new }
     ensures dealt { Deals number.old number.new lines.old lines.new }
     ensures cause { result ≡ Err NetFault → Rose (N.poll_faults net.old) (N.poll_faults net.new)
         ⊎ Rose (N.faults net.old listener) (N.faults net.new listener) }
@@ -166,7 +158,7 @@ fn round<R: Wait, N: Passable, B: Bell>(
         Err(PollError::Fault) => return Err(ManyError::NetFault),
         Err(PollError::Memory) => return Err(ManyError::Memory),
     }
-    if Ops::ACCEPT.within(told_of(told, LISTENER)) {
+    if Ops::ACCEPT.within(told_of(told, LISTENER.number)) {
         accept_come(rt, net, lines, bells, number, conns)
     } else {
         Ok(())
@@ -185,15 +177,14 @@ fn deal_all<R: Wait, N: Passable, B: Bell>(
     conns: u32,
 ) -> Result<(), ManyError>
     requires listens { (N.place net.old listener).standing ≡ Listening }
-    requires accepting { IsAccepting (meanings N.link N.place N.faults N.poll_faults) number.old net.old }
+    requires accepting { IsAccepting N.Net number.old net.old }
     requires few { (number.old ≤ conns) × (conns ≤ 16000) }
     requires some { 0 < length lines.old }
     ensures listens { N.place net.new listener ≡ N.place net.old listener }
     ensures within { number.new ≤ conns }
     ensures all { OnOk result (number.new ≡ conns) }
-    ensures asked { IsAccepting (meanings N.link N.place N.faults N.poll_faults) conns net.new }
-    ensures accepted { Accepts (meanings N.link N.place N.faults N.poll_faults) N.accepted number.old number.new
-        net.old net.new }
+    ensures accepting { IsAccepting N.Net number.new net.new }
+    ensures accepted { Accepts N.Net number.old number.new net.old net.new }
     ensures dealt { Deals number.old number.new lines.old lines.new }
     ensures cause { result ≡ Err NetFault → Rose (N.poll_faults net.old) (N.poll_faults net.new)
         ⊎ Rose (N.faults net.old listener) (N.faults net.new listener) }
@@ -227,23 +218,21 @@ fn accept_plan<R: Wait, N: Passable, B: Bell>(
     number: &mut u32,
 ) -> Result<(), ManyError>
     requires plan { IsServable plan }
-    requires fresh { (c : Channel) → IsUnused (N.link net.old c) }
-    requires unasked { (c : Channel) → N.place net.old c ≡ unused }
+    requires fresh { IsFresh (view_of N.Net net.old) }
     requires some { 0 < length lines.old }
     requires none { number.old ≡ 0 }
     requires unregistered { board.old.registered ≡ 0 }
     ensures within { number.new ≤ plan.conns }
     ensures all { OnOk result (number.new ≡ plan.conns) }
-    ensures accepted { Accepts (meanings N.link N.place N.faults N.poll_faults) N.accepted number.old number.new
-        net.old net.new }
+    ensures accepted { Accepts N.Net number.old number.new net.old net.new }
     ensures dealt { Deals number.old number.new lines.old lines.new }
     ensures cause { result ≡ Err NetFault → Rose (N.poll_faults net.old) (N.poll_faults net.new)
         ⊎ Rose (N.faults net.old listener) (N.faults net.new listener) }
-    ensures leaves { LeavesAcceptor (meanings N.link N.place N.faults N.poll_faults) plan net.old net.new }
+    ensures leaves { LeavesAcceptor plan (clients_below number.new) (view_of N.Net net.old) (view_of N.Net net.new) }
     ensures seat { IsSameSeat board.old board.new }
     ensures registered { OnOk result (board.new.registered ≡ 1) }
 {
-    let Ok(_port) = board.watch(rt, LISTENER, Kind::Listener, Ops::ACCEPT) else {
+    let Ok(_port) = board.watch(rt, LISTENER.number, Kind::Listener, Ops::ACCEPT) else {
         return Err(ManyError::Memory);
     };
     if net.listen(LISTENER, plan.listen).is_err() {
@@ -267,19 +256,17 @@ fn accept_seated<R: Wait, N: Passable, B: Bell>(
     number: &mut u32,
 ) -> Result<(), ManyError>
     requires plan { IsServable plan }
-    requires fresh { (c : Channel) → IsUnused (N.link net.old c) }
-    requires unasked { (c : Channel) → N.place net.old c ≡ unused }
+    requires fresh { IsFresh (view_of N.Net net.old) }
     requires some { 0 < length lines.old }
     requires none { number.old ≡ 0 }
     requires newcomer { IsNewcomer words.now pass.old (caller 0) }
     ensures within { number.new ≤ plan.conns }
     ensures all { OnOk result (number.new ≡ plan.conns) }
-    ensures accepted { Accepts (meanings N.link N.place N.faults N.poll_faults) N.accepted number.old number.new
-        net.old net.new }
+    ensures accepted { Accepts N.Net number.old number.new net.old net.new }
     ensures dealt { Deals number.old number.new lines.old lines.new }
     ensures cause { result ≡ Err NetFault → Rose (N.poll_faults net.old) (N.poll_faults net.new)
         ⊎ Rose (N.faults net.old listener) (N.faults net.new listener) }
-    ensures leaves { LeavesAcceptor (meanings N.link N.place N.faults N.poll_faults) plan net.old net.new }
+    ensures leaves { LeavesAcceptor plan (clients_below number.new) (view_of N.Net net.old) (view_of N.Net net.new) }
     ensures seat { LeavesSeat words.now 0 acceptor_deal 1 pass.new result }
 {
     let Some(board) = take_seat(alloc, words, pass, ACCEPTOR, acceptor_share()) else {
@@ -313,12 +300,10 @@ fn deal_plan<R: Wait, N: Passable, B: Bell>(
     plan: ProxyPlan,
 ) -> Result<(), ManyError>
     requires plan { IsServable plan }
-    requires fresh { (c : Channel) → IsUnused (N.link net.old c) }
-    requires unasked { (c : Channel) → N.place net.old c ≡ unused }
+    requires fresh { IsFresh (view_of N.Net net.old) }
     requires some { 0 < length lines.old }
     requires newcomer { IsNewcomer words.now pass.old (caller 0) }
-    ensures accepted { HasAccepted (meanings N.link N.place N.faults N.poll_faults) N.accepted plan net.old net.new
-        result }
+    ensures accepted { HasAccepted N.Net plan net.old net.new result }
     ensures sent { HasSent (N.accepted net.old) (N.accepted net.new) lines.old lines.new }
     ensures seat { LeavesSeat words.now 0 acceptor_deal 1 pass.new result }
 {
@@ -336,12 +321,10 @@ pub(crate) fn accept_all<R: Wait, N: Passable, B: Bell + Drop>(
     outgoing: &mut Outgoing<N::Link, B>,
 ) -> Result<(), ManyError>
     requires plan { IsServable outgoing.old.plan }
-    requires fresh { (c : Channel) → IsUnused (N.link net.old c) }
-    requires unasked { (c : Channel) → N.place net.old c ≡ unused }
+    requires fresh { IsFresh (view_of N.Net net.old) }
     requires some { 0 < length outgoing.old.lines.items }
     requires newcomer { IsNewcomer words.now outgoing.old.pass (caller 0) }
-    ensures accepted { HasAccepted (meanings N.link N.place N.faults N.poll_faults) N.accepted outgoing.old.plan net.old
-        net.new result }
+    ensures accepted { HasAccepted N.Net outgoing.old.plan net.old net.new result }
     ensures sent { HasSent (N.accepted net.old) (N.accepted net.new) outgoing.old.lines.items
         outgoing.new.lines.items }
     ensures seat { LeavesSeat words.now 0 acceptor_deal 1 outgoing.new.pass result }

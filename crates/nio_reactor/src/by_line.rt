@@ -1,18 +1,19 @@
 //! The way of a worker: its links come on a line.
 
-use crate::door::{Door, is_door_of};
+use crate::door::{Door, is_open};
+use crate::handed::LISTENER;
 use crate::handover::Handover;
 use crate::heard::{Heard, hear, take_link};
 use crate::lane::Lane;
 use crate::lines::Lines;
-use nio_base::{Addr, ChanNo, Gate, Ops};
+use crate::ready::Ready;
+use nio_base::{Addr, ChanId, Gate, Ops};
+use nio_board::Polls;
 use nio_history::{Milliseconds, Mode};
 use nio_link::{Failed, Got, Net, Passable, Put};
 use nio_poller::{PollError, Poller};
 use nio_select::{Asked, Told};
 use nio_serve::Way;
-use nio_steps::LookedKey;
-use nio_trace::{Reading, Trace};
 use std::alloc::Global;
 use std::sync::Wait;
 
@@ -36,6 +37,9 @@ pub(crate) struct ByLine<'a, H, G> {
 }
 
 impl<'a, H, G> ByLine<'a, H, G> {
+    ghost use Rattle.std.specs.Prelude.{IfSome};
+    ghost use Rattle.nio_reactor.specs.Lanes.{IsListenerKey};
+
     /// The way of a worker. `has_bell` says that a bell rings where a link was sent.
     pub(crate) fn over(rt: &'a H, gate: &'a G, has_bell: bool) -> ByLine<'a, H, G> {
         let wait = if has_bell { LONG_WAIT } else { SHORT_WAIT };
@@ -48,24 +52,20 @@ impl<'a, H, G> ByLine<'a, H, G> {
     }
 
     // The index of the listener's key, where it is watched. The key keeps its index.
-    fn listener_key(&mut self, asked: &Asked) -> Option<u32> {
+    fn listener_key(&mut self, asked: &Asked) -> Option<u32>
+        ensures { IfSome result (IsListenerKey asked.now.keys) }
+    {
         if self.listener.is_none() {
             self.listener = first_key(asked);
         }
-        let key = asked.key(self.listener?)?;
-        if key.channel.0 == 0 {
-            Some(key.index)
+        let index = self.listener?;
+        let key = asked.key(index)?;
+        if key.channel == LISTENER.number {
+            Some(index)
         } else {
             None
         }
     }
-}
-
-/// What a poll was asked.
-struct Keys;
-
-impl<'a> Reading<&'a Asked, LookedKey> for Keys {
-    ghost items = { λ asked. asked.now.keys };
 }
 
 // The least index of a key. The listener was registered first, so it is that of its key, as long as that is watched.
@@ -78,36 +78,19 @@ fn first_key(asked: &Asked) -> Option<u32> {
     None
 }
 
-impl<'a, H: Wait, N: Passable, K: Lines<N::Link>, G: Gate> Way<Lane<N, K>> for ByLine<'a, H, G> {
-    ghost use Rattle.std.proofs.Common.{refl, ap, ◌∙◌, ◌==◌, if◌then◌else◌, map};
-    ghost use Rattle.nio_reactor.specs.Lanes.{door_place, seen, place_over, faults_over, ready_over, polls_over};
-    ghost use Rattle.nio_reactor.specs.Lanes.{IsKept};
+impl<'a, H: Wait, N: Passable, K: Lines<N::Link>, G: Gate> Polls<Lane<N, K>> for ByLine<'a, H, G> {
+    ghost use Rattle.std.proofs.Common.{refl, map, None};
+    ghost use Rattle.nio_reactor.specs.Lanes.{IsKept, polls_over, ready_over};
     ghost use Rattle.nio_reactor.specs.Receiving.{is_early};
 
     ghost poll_faults = { λ l. polls_over (is_early l.heard) (N.poll_faults l.net) };
 
-    ghost ready = { λ l. ready_over l.told_line l.asked (N.ready l.net) };
+    ghost ready = { λ l. ready_over l.ready (N.ready l.net) };
+
+    ghost polls = { λ l. None };
 
     ghost kept = { λ x y. IsKept (N.kept x.net y.net) x.door y.door (map (λ h. h.client) x.put)
         (map (λ h. h.client) y.put) };
-
-    ghost link = { λ l. N.link l.net };
-
-    ghost faults = { λ l. faults_over (N.faults l.net) };
-
-    ghost place = { λ l. place_over l.door (N.place l.net) };
-
-    ghost accepted = { λ l. map (λ h. h.client) l.put };
-
-    fn permits(&self, _chan: ChanNo) -> Ops {
-        Ops::of(u8::MAX)
-    }
-
-    fn permitted(&mut self) -> Option<ChanNo> {
-        None
-    }
-
-    fn begin_round<R: Wait>(&mut self, _rt: &R) {}
 
     fn poll<R: Wait>(
         &mut self,
@@ -120,12 +103,12 @@ impl<'a, H: Wait, N: Passable, K: Lines<N::Link>, G: Gate> Way<Lane<N, K>> for B
         if matches!(lane.heard, Heard::Refused(_) | Heard::Early) {
             return Err(PollError::Memory);
         }
-        if lane.left == 0 || !is_door_of(lane.worker, lane.door) {
-            lane.told_line = None;
+        let told_line = lane.ready.is_of_line();
+        lane.ready = Ready::Net;
+        if lane.left == 0 || !is_open(lane.worker, lane.door) {
             return lane.net.poll(rt, alloc, asked, mode);
         }
         let Some(index) = self.listener_key(asked) else {
-            lane.told_line = None;
             return lane.net.poll(rt, alloc, asked, mode);
         };
         let is_idle = asked.len() == 1;
@@ -143,37 +126,54 @@ impl<'a, H: Wait, N: Passable, K: Lines<N::Link>, G: Gate> Way<Lane<N, K>> for B
                 return Err(PollError::Fault);
             }
             // the connections that are live go on
-            Heard::End => {
-                lane.told_line = None;
-                return lane.net.poll(rt, alloc, asked, mode);
-            }
-            Heard::Nothing => {
-                lane.told_line = None;
-                return lane.net.poll(rt, alloc, asked, self.wait);
-            }
+            Heard::End => return lane.net.poll(rt, alloc, asked, mode),
+            Heard::Nothing => return lane.net.poll(rt, alloc, asked, self.wait),
             Heard::Refused(_) | Heard::Early => return Err(PollError::Memory),
             Heard::Link(_) => {}
         }
-        if lane.told_line.is_some() {
+        if told_line {
             // The last poll told of the line. This one polls the net, so that neither keeps the other waiting.
-            lane.told_line = None;
             return lane.net.poll(rt, alloc, asked, Mode::Now);
         }
         let told = vec![in alloc; (index, Ops::ACCEPT)];
         let Ok(pairs) = told else {
             return Err(PollError::Memory);
         };
-        lane.told_line = Some(index);
-        lane.asked = Trace::new();
-        lane.asked.extend_from::<&Asked, Keys>(&asked);
+        lane.ready = Ready::Line;
         Ok(Told {
             pairs,
             elapsed: false,
         })
     }
 
-    fn listen(&mut self, lane: &mut Lane<N, K>, chan: ChanNo, at: Addr) -> Result<(), Failed> {
-        if chan.0 == 0 {
+    ghost kept_same = { λ x. record { net = N.kept_same x.net; door = refl; accepted = refl } };
+}
+
+impl<'a, H: Wait, N: Passable, K: Lines<N::Link>, G: Gate> Way<Lane<N, K>> for ByLine<'a, H, G> {
+    ghost use Rattle.std.proofs.Common.{ap, ◌∙◌, if◌then◌else◌, map};
+    ghost use Rattle.nio_reactor.specs.Lanes.{door_place, seen, place_over, faults_over, is_listener};
+
+    ghost link = { λ l. N.link l.net };
+
+    ghost faults = { λ l. faults_over (N.faults l.net) };
+
+    ghost place = { λ l. place_over l.door (N.place l.net) };
+
+    ghost accepted = { λ l. map (λ h. h.client) l.put };
+
+    fn permits(&self, _chan: ChanId) -> Ops {
+        Ops::of(u8::MAX)
+    }
+
+    fn permitted(&mut self) -> Option<ChanId> {
+        None
+    }
+
+    fn begin_round<R: Wait>(&mut self, _rt: &R) {}
+
+    fn listen(&mut self, lane: &mut Lane<N, K>, chan: ChanId, at: Addr) -> Result<(), Failed> {
+        if chan == LISTENER {
+            lane.ready = lane.ready.without_listener();
             lane.door = Door::Open(at);
             return Ok(());
         }
@@ -183,11 +183,15 @@ impl<'a, H: Wait, N: Passable, K: Lines<N::Link>, G: Gate> Way<Lane<N, K>> for B
     fn accept(
         &mut self,
         lane: &mut Lane<N, K>,
-        listener: ChanNo,
-        chan: ChanNo,
-    ) -> Result<bool, Failed> {
-        if listener.0 != 0 || lane.left == 0 || !is_door_of(lane.worker, lane.door) {
-            return Ok(false);
+        listener: ChanId,
+        chan: ChanId,
+    ) -> Option<Result<bool, Failed>> {
+        if listener != LISTENER
+            || lane.ready != Ready::Line
+            || lane.left == 0
+            || !is_open(lane.worker, lane.door)
+        {
+            return None;
         }
         hear(
             self.rt,
@@ -198,12 +202,14 @@ impl<'a, H: Wait, N: Passable, K: Lines<N::Link>, G: Gate> Way<Lane<N, K>> for B
             false,
         );
         let Some(handed) = take_link(&mut lane.heard) else {
-            return Ok(false);
+            lane.ready = Ready::Nothing;
+            return Some(Ok(false));
         };
         let (connection, link) = handed.into_parts();
         if lane.net.put_in(chan, link).is_err() {
             lane.heard = Heard::Refused(connection);
-            return Ok(false);
+            lane.ready = Ready::Nothing;
+            return Some(Ok(false));
         }
         lane.left -= 1;
         lane.put.push(&Handover {
@@ -211,54 +217,55 @@ impl<'a, H: Wait, N: Passable, K: Lines<N::Link>, G: Gate> Way<Lane<N, K>> for B
             worker: lane.worker,
             client: chan,
         });
-        Ok(true)
+        Some(Ok(true))
     }
 
     fn connect(
         &mut self,
         lane: &mut Lane<N, K>,
-        chan: ChanNo,
+        chan: ChanId,
         to: Addr,
     ) -> Option<Result<bool, Failed>> {
-        if chan.0 == 0 {
+        if chan == LISTENER {
             return None;
         }
         Some(lane.net.connect(chan, to))
     }
 
-    fn finish_connect(&mut self, lane: &mut Lane<N, K>, chan: ChanNo) -> Result<bool, Failed> {
-        if lane.told_line.is_some() {
-            return Ok(false);
-        }
-        lane.net.finish_connect(chan)
+    fn finish_connect(
+        &mut self,
+        lane: &mut Lane<N, K>,
+        chan: ChanId,
+    ) -> Option<Result<bool, Failed>> {
+        Some(lane.net.finish_connect(chan))
     }
 
     fn read(
         &mut self,
         lane: &mut Lane<N, K>,
-        chan: ChanNo,
+        chan: ChanId,
         into: &mut [u8],
-    ) -> Result<Got, Failed> {
-        if lane.told_line.is_some() {
-            return Ok(Got::NotYet);
-        }
-        lane.net.read(chan, into)
+    ) -> Option<Result<Got, Failed>> {
+        Some(lane.net.read(chan, into))
     }
 
-    fn write(&mut self, lane: &mut Lane<N, K>, chan: ChanNo, from: &[u8]) -> Result<Put, Failed> {
-        if lane.told_line.is_some() {
-            return Ok(Put::NotYet);
-        }
-        lane.net.write(chan, from)
+    fn write(
+        &mut self,
+        lane: &mut Lane<N, K>,
+        chan: ChanId,
+        from: &[u8],
+    ) -> Option<Result<Put, Failed>> {
+        Some(lane.net.write(chan, from))
     }
 
-    fn shut_write(&mut self, lane: &mut Lane<N, K>, chan: ChanNo) -> Result<(), Failed> {
+    fn shut_write(&mut self, lane: &mut Lane<N, K>, chan: ChanId) -> Result<(), Failed> {
         lane.net.shut_write(chan)
     }
 
-    fn close(&mut self, lane: &mut Lane<N, K>, chan: ChanNo) {
-        if chan.0 == 0 {
+    fn close(&mut self, lane: &mut Lane<N, K>, chan: ChanId) {
+        if chan == LISTENER {
             if let Door::Open(at) = lane.door {
+                lane.ready = lane.ready.without_listener();
                 lane.door = Door::Closed(at);
             }
             return;
@@ -266,14 +273,12 @@ impl<'a, H: Wait, N: Passable, K: Lines<N::Link>, G: Gate> Way<Lane<N, K>> for B
         lane.net.close(chan)
     }
 
-    ghost kept_same = { λ x. record { net = N.kept_same x.net; door = refl; accepted = refl } };
-
     ghost kept_links = { λ x y h. N.kept_links x.net y.net h.net };
 
-    ghost kept_faults = { λ x y h c. ap (λ n. if c.0 == 0 then 0 else n) (N.kept_faults x.net y.net h.net c) };
+    ghost kept_faults = { λ x y h c. ap (λ n. if is_listener c then 0 else n) (N.kept_faults x.net y.net h.net c) };
 
     ghost kept_places = { λ x y h c. ap (λ d. place_over d (N.place y.net) c) h.door
-        ∙ ap (λ p. if c.0 == 0 then door_place x.door else seen p) (N.kept_places x.net y.net h.net c) };
+        ∙ ap (λ p. if is_listener c then door_place x.door else seen p) (N.kept_places x.net y.net h.net c) };
 
     ghost kept_accepted = { λ x y h. h.accepted };
 }

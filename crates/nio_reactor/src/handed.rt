@@ -5,13 +5,15 @@ ghost use Rattle.nio_link.specs.declared.place.Standing.TheVariants.{Listening};
 ghost use Rattle.nio_serve.specs.Serving.{listener};
 ghost use Rattle.nio_base.specs.Ops.{is_within};
 ghost use Rattle.nio_reactor.specs.Accepting.{Accepts, IsAccepting};
-ghost use Rattle.nio_reactor.specs.Many.{meanings};
 
-use nio_base::ChanNo;
+use nio_base::{ChanId, ChanNo};
 use nio_link::{Failed, Passable};
 
 /// The channel of the listener.
-pub(crate) const LISTENER: ChanNo = ChanNo(0);
+pub(crate) const LISTENER: ChanId = ChanId {
+    number: ChanNo(0),
+    serial: 0,
+};
 
 /// A link that was accepted, with the number of its connection, counted from 0. `accept_link` alone makes one.
 #[derive(Drop)]
@@ -41,25 +43,23 @@ pub(crate) fn accept_link<N: Passable>(
     net: &mut N,
     number: u32,
 ) -> Result<Option<Handed<N::Link>>, Failed>
-    requires ready { IsTrue (is_within 16 (N.ready net.old listener)) }
+    requires ready { IsTrue (is_within 16 (N.ready net.old listener.number)) }
     requires listens { (N.place net.old listener).standing ≡ Listening }
-    requires accepting { IsAccepting (meanings N.link N.place N.faults N.poll_faults) number net.old }
+    requires accepting { IsAccepting N.Net number net.old }
     requires few { number < 16000 }
     ensures listens { N.place net.new listener ≡ N.place net.old listener }
-    ensures asked { IsAccepting (meanings N.link N.place N.faults N.poll_faults) (number + 1) net.new }
-    ensures early { IfOk result (λ come. IsNone come
-        → IsAccepting (meanings N.link N.place N.faults N.poll_faults) number net.new) }
-    ensures accepted { IfOk result (λ come. IsSome come
-        → Accepts (meanings N.link N.place N.faults N.poll_faults) N.accepted number (number + 1) net.old net.new) }
-    ensures still { IfOk result (λ come. IsNone come
-        → Accepts (meanings N.link N.place N.faults N.poll_faults) N.accepted number number net.old net.new) }
-    ensures failed { OnErr result
-        (Accepts (meanings N.link N.place N.faults N.poll_faults) N.accepted number number net.old net.new) }
+    ensures come { IfOk result (λ come. IsSome come → IsAccepting N.Net (number + 1) net.new) }
+    ensures early { IfOk result (λ come. IsNone come → IsAccepting N.Net number net.new) }
+    ensures failing { OnErr result (IsAccepting N.Net number net.new) }
+    ensures accepted { IfOk result (λ come. IsSome come → Accepts N.Net number (number + 1) net.old net.new) }
+    ensures still { IfOk result (λ come. IsNone come → Accepts N.Net number number net.old net.new) }
+    ensures failed { OnErr result (Accepts N.Net number number net.old net.new) }
     ensures its { IfOk result (λ come. IfSome come (λ handed. handed.number ≡ number)) }
     ensures cause { OnErr result (Rose (N.faults net.old listener) (N.faults net.new listener)) }
-    ensures more { IfOk result (λ come. IsSome come → N.ready net.new listener ≡ N.ready net.old listener) }
+    ensures more { IfOk result (λ come. IsSome come → N.ready net.new listener.number
+        ≡ N.ready net.old listener.number) }
 {
-    let client = ChanNo(2 * number + 1);
+    let client = ChanId::first(ChanNo(2 * number + 1));
     if !net.accept(LISTENER, client)? {
         return Ok(None);
     }

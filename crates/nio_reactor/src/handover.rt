@@ -1,7 +1,7 @@
 //! Which connections' links were put in.
 use crate::lane::Lane;
 use crate::lines::Lines;
-use nio_base::ChanNo;
+use nio_base::ChanId;
 use nio_link::Passable;
 use nio_trace::Reading;
 
@@ -14,7 +14,7 @@ pub struct Handover {
     /// The worker.
     pub worker: u32,
     /// The channel of the client's link in the worker's net.
-    pub client: ChanNo,
+    pub client: ChanId,
 }
 
 /// Reads what a worker has put in.

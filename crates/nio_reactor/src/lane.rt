@@ -1,9 +1,10 @@
 //! What a worker works on.
 ghost use Rattle.std.specs.Prelude.{◌≡◌, ◌+◌, ◌<◌, ◌++◌, ◌⊎◌, [], All, IsFalse, IsTrue, Some, length, map, slice_get};
 ghost use mathlib.Core.List.{IsPrefix};
-ghost use Rattle.nio_link.specs.Places.{unused};
+ghost use Rattle.nio_link.specs.Places.{never_asked};
 ghost use Rattle.nio_serve.specs.Serving.{listener};
 ghost use Rattle.nio_reactor.specs.Dealing.{number_of, share};
+ghost use Rattle.nio_reactor.specs.Lanes.{IsSpare, IsToldOpen};
 ghost use Rattle.nio_reactor.specs.Receiving.{in_hand, is_door_of, is_early, put_number};
 
 use crate::door::Door;
@@ -11,11 +12,11 @@ use crate::handover::Handover;
 use crate::heard::Heard;
 use crate::lines::Lines;
 use crate::message::Message;
+use crate::ready::Ready;
 use nio_line::{LineIn, LineOut};
 use nio_link::Passable;
 use nio_relay::Served;
 use nio_serve::ServeError;
-use nio_steps::LookedKey;
 use nio_trace::Trace;
 use nio_words::Pass;
 use std::alloc::Global;
@@ -36,16 +37,15 @@ pub(crate) struct Lane<N: Passable, K: Lines<N::Link>> {
     pub door: Door,
     /// How many of the worker's links weren't put in yet.
     pub left: u32,
-    /// The last poll told of the line alone: of the key with this index.
-    pub told_line: Option<u32>,
-    /// What that poll was asked.
-    pub asked: Trace<LookedKey>,
+    /// What is ready of what the last poll told.
+    pub ready: Ready,
     /// The links that were put in, in their order.
     pub put: Trace<Handover>,
     /// What the worker came to.
     pub outcome: Result<Served, ServeError>,
     pub lines: PhantomData<K>,
-    ghost spare: { N.place net listener ≡ unused },
+    ghost spare: { IsSpare door (N.place net) },
+    ghost told: { IsToldOpen ready door },
     ghost its: { slice_get K.lines worker ≡ Some line.line },
     ghost at_door: { IsFalse (is_door_of worker door) → length line.carried ≡ 0 },
     ghost numbers: { map number_of line.carried ≡ map put_number put ++ in_hand heard },
@@ -74,7 +74,7 @@ impl<N: Passable, K: Lines<N::Link>> Lane<N, K> {
         left: u32,
         has_bell: bool,
     ) -> Lane<N, K>
-        requires unused { N.place net listener ≡ unused }
+        requires unused { N.place net listener ≡ never_asked }
         requires its { slice_get K.lines worker ≡ Some line.line }
         requires new { line.carried ≡ [] }
         requires all { left ≡ share (length K.lines) worker K.conns }
@@ -92,8 +92,7 @@ impl<N: Passable, K: Lines<N::Link>> Lane<N, K> {
             heard: Heard::Nothing,
             door: Door::Unasked,
             left,
-            told_line: None,
-            asked: Trace::new(),
+            ready: Ready::Net,
             put: Trace::new(),
             outcome: Err(ServeError::Memory),
             lines: PhantomData,

@@ -15,5 +15,6 @@ mod lane;
 mod lines;
 mod many;
 mod message;
+mod ready;
 mod table;
 mod working;

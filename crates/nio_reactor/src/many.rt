@@ -2,22 +2,20 @@
 ghost use Rattle.std.specs.Prelude.{◌≡◌, ◌<◌, ◌≤◌, ◌+◌, ◌++◌, [], false, All, IfOk, IsFalse, IsTrue, OnErr, OnOk, length};
 ghost use Rattle.std.specs.Prelude.{map};
 ghost use Rattle.std.specs.Prelude.{vec_capacity};
-ghost use Rattle.nio_base.specs.declared.numbers.ChanNo.{ChanNo as Channel};
-ghost use Rattle.nio_link.specs.Links.{IsUnused};
-ghost use Rattle.nio_link.specs.Places.{unused};
+ghost use Rattle.nio_link.specs.Nets.{view_of};
+ghost use Rattle.nio_link.specs.Places.{never_asked};
 ghost use Rattle.nio_orderly.specs.Orderly.{IsOrderly, IsWhole};
 ghost use Rattle.nio_relay.specs.Plan.{IsServable};
-ghost use Rattle.nio_serve.specs.Serving.{listener};
+ghost use Rattle.nio_serve.specs.Serving.{listener, IsFresh};
 ghost use Rattle.nio_serve.specs.declared.serving.ServeError.TheVariants.{Memory as LacksMemory};
 ghost use Rattle.nio_words.specs.Passes.{IsPassOf, limits_of, seen};
 ghost use Rattle.nio_reactor.specs.Accepting.{CanAccept, HasAccepted, HasSent};
 ghost use Rattle.nio_reactor.specs.Handing.{AccountsForLinks, AreHanded, put_below};
-ghost use Rattle.nio_reactor.specs.Many.{meanings, AreAccepted, LeavesAcceptor, LeavesWorkers, NoneRoseOfAll};
-ghost use Rattle.nio_reactor.specs.Many.{RelayBytes, ServesAllCleanOr, ServesMany};
+ghost use Rattle.nio_reactor.specs.Many.{ServesMany};
 ghost use Rattle.nio_reactor.specs.Placing.{ArePlaced, HoldsAll, caller, served_of, table_for};
 ghost use Rattle.nio_reactor.specs.Receiving.{AreOwn, AreSettled, HaveReceived, is_early};
 ghost use Rattle.nio_reactor.specs.Seats.{HaveSeats, IsNewcomer, LeaveSeats, LeavesSeat, StandsIn, acceptor_deal};
-ghost use Rattle.nio_reactor.specs.Working.{AddsUp, Concludes, HasEnded, HaveWorked, IsFresh, NoneHasEnded};
+ghost use Rattle.nio_reactor.specs.Working.{AddsUp, Concludes, HasEnded, HaveWorked, NoneHasEnded};
 ghost use Rattle.nio_reactor.specs.declared.door.Door.TheVariants.{Unasked};
 
 use crate::accepting::accept_all;
@@ -91,7 +89,7 @@ fn staff<N: Passable + Drop, K: Lines<N::Link>>(
     requires few { length more.old.items ≤ 15 }
     requires exits { length lines.items ≡ length more.old.items }
     requires passes { length passes.items ≡ length more.old.items }
-    requires unasked { All (λ net. N.place net listener ≡ unused) more.old.items }
+    requires unasked { All (λ net. N.place net listener ≡ never_asked) more.old.items }
     ensures nets { IfOk result (λ workers. map (λ x. x.lane.net) workers.items ≡ more.old.items) }
     ensures passes { IfOk result (λ workers. map (λ x. x.pass) workers.items ≡ passes.items) }
     ensures doors { IfOk result (λ workers. All (λ x. x.lane.door ≡ Unasked) workers.items) }
@@ -236,13 +234,13 @@ fn work_beside<
 ) -> Result<(), ManyError>
     requires conns { plan.conns ≤ 16000 }
     requires few { length workers.old.items ≤ 15 }
-    requires nets { All (λ x. IsFresh (meanings N.link N.place N.faults N.poll_faults) x.lane.net) workers.old.items }
+    requires nets { All (λ x. IsFresh (view_of N.Net x.lane.net)) workers.old.items }
     requires doors { All (λ x. x.lane.door ≡ Unasked) workers.old.items }
     requires on_time { All (λ x. is_early x.lane.heard ≡ false) workers.old.items }
     requires seats { HaveSeats words.now (λ x. x.pass) workers.old.items }
     requires able { A.pre accept.old }
     ensures accepted { A.step accept.old result accept.new }
-    ensures worked { HaveWorked (meanings N.link N.place N.faults N.poll_faults) plan (λ x. x.lane.net)
+    ensures worked { HaveWorked N.Net plan (λ x. x.lane.net) (λ x. x.lane.put)
         (λ x. is_early x.lane.heard) (λ x. x.lane.outcome) workers.old.items workers.new.items }
     ensures received { HaveReceived plan (λ x. x.lane.line) (λ x. x.lane.worker) (λ x. x.lane.put)
         (λ x. x.lane.outcome) workers.old.items workers.new.items }
@@ -271,21 +269,19 @@ fn serve_lanes<
 ) -> Result<(), ManyError>
     requires plan { IsServable plan }
     requires same { outgoing.old.plan ≡ plan }
-    requires fresh { (c : Channel) → IsUnused (N.link net.old c) }
-    requires unasked { (c : Channel) → N.place net.old c ≡ unused }
+    requires fresh { IsFresh (view_of N.Net net.old) }
     requires some { 0 < length outgoing.old.lines.items }
     requires newcomer { IsNewcomer words.now outgoing.old.pass (caller 0) }
     requires few { length workers.old.items ≤ 15 }
-    requires nets { All (λ x. IsFresh (meanings N.link N.place N.faults N.poll_faults) x.lane.net) workers.old.items }
+    requires nets { All (λ x. IsFresh (view_of N.Net x.lane.net)) workers.old.items }
     requires doors { All (λ x. x.lane.door ≡ Unasked) workers.old.items }
     requires on_time { All (λ x. is_early x.lane.heard ≡ false) workers.old.items }
     requires seats { HaveSeats words.now (λ x. x.pass) workers.old.items }
-    ensures accepted { HasAccepted (meanings N.link N.place N.faults N.poll_faults) N.accepted plan net.old net.new
-        result }
+    ensures accepted { HasAccepted N.Net plan net.old net.new result }
     ensures sent { HasSent (N.accepted net.old) (N.accepted net.new) outgoing.old.lines.items
         outgoing.new.lines.items }
     ensures seat { LeavesSeat words.now 0 acceptor_deal 1 outgoing.new.pass result }
-    ensures worked { HaveWorked (meanings N.link N.place N.faults N.poll_faults) plan (λ x. x.lane.net)
+    ensures worked { HaveWorked N.Net plan (λ x. x.lane.net) (λ x. x.lane.put)
         (λ x. is_early x.lane.heard) (λ x. x.lane.outcome) workers.old.items workers.new.items }
     ensures received { HaveReceived plan (λ x. x.lane.line) (λ x. x.lane.worker) (λ x. x.lane.put)
         (λ x. x.lane.outcome) workers.old.items workers.new.items }
@@ -300,10 +296,10 @@ fn serve_lanes<
         gate,
         plan,
         &mut ||
-            requires { CanAccept (meanings N.link N.place N.faults N.poll_faults) outgoing.now.plan
+            requires { CanAccept N.Net outgoing.now.plan
                 (length outgoing.now.lines.items) net.now
                 × IsNewcomer words.now outgoing.now.pass (caller 0) }
-            ensures { HasAccepted (meanings N.link N.place N.faults N.poll_faults) N.accepted
+            ensures { HasAccepted N.Net
                 outgoing.entry.now.plan net.entry.now net.exit.now result
                 × HasSent (N.accepted net.entry.now) (N.accepted net.exit.now) outgoing.entry.now.lines.items
                 outgoing.exit.now.lines.items
@@ -344,9 +340,8 @@ fn serve_between<
 ) -> Result<(Served, Pass), ManyError>
     requires plan { IsServable outgoing.plan }
     requires workers { (1 ≤ length more.old.items) × (length more.old.items ≤ 15) }
-    requires fresh { (c : Channel) → IsUnused (N.link net.old c) }
-    requires unasked { (c : Channel) → N.place net.old c ≡ unused }
-    requires nets { All (IsFresh (meanings N.link N.place N.faults N.poll_faults)) more.old.items }
+    requires fresh { IsFresh (view_of N.Net net.old) }
+    requires nets { All (λ x. IsFresh (view_of N.Net x)) more.old.items }
     requires conns { outgoing.plan.conns ≡ K.conns }
     requires lines_in { map (λ e. e.line) outgoing.lines.items ≡ K.lines }
     requires lines_out { map (λ e. e.line) exits.items ≡ K.lines }
@@ -358,20 +353,11 @@ fn serve_between<
     requires newcomer { IsNewcomer words.now outgoing.pass (caller 0) }
     requires seats { HaveSeats words.now (λ p. p) passes.items }
     requires passes { length passes.items ≡ length more.old.items }
-    ensures serves { ServesMany (meanings N.link N.place N.faults N.poll_faults) outgoing.plan net.old net.new more.old.items
-        more.new.items (served_of result) }
-    ensures relays { RelayBytes (meanings N.link N.place N.faults N.poll_faults) more.new.items }
-    ensures leaves { LeavesAcceptor (meanings N.link N.place N.faults N.poll_faults) outgoing.plan net.old net.new }
-    ensures workers { LeavesWorkers (meanings N.link N.place N.faults N.poll_faults) outgoing.plan more.new.items }
-    ensures accepts { AreAccepted outgoing.plan.conns (N.accepted net.old) (N.accepted net.new) (served_of result) }
+    ensures serves { ServesMany N.Net outgoing.plan net.old net.new more.old.items more.new.items (served_of result) }
     ensures count { length more.new.items ≡ length more.old.items }
-    ensures handed { AreHanded outgoing.plan.conns (length more.old.items) handed.old handed.new
-        (served_of result) }
-    ensures links { AccountsForLinks (meanings N.link N.place N.faults N.poll_faults) (N.accepted net.old)
-        (N.accepted net.new) more.old.items more.new.items handed.old handed.new (served_of result) }
-    ensures complete { NoneRoseOfAll (meanings N.link N.place N.faults N.poll_faults) net.old net.new more.old.items
-        more.new.items → ServesAllCleanOr (meanings N.link N.place N.faults N.poll_faults) outgoing.plan more.new.items
-        (served_of result) }
+    ensures handed { AreHanded N.Net outgoing.plan.conns more.new.items handed.old handed.new (served_of result) }
+    ensures links { AccountsForLinks N.Net (N.accepted net.old) (N.accepted net.new) more.old.items more.new.items
+        handed.old handed.new (served_of result) }
     ensures pass { IfOk result (λ done. HoldsAll (table_for (length more.old.items)) done.1) }
     ensures whole { IfOk result (λ done. IsWhole (table_for (length more.old.items)) (seen done.1)) }
     ensures orderly { IfOk result (λ done. IsOrderly (table_for (length more.old.items)) (seen done.1)) }
@@ -394,8 +380,7 @@ fn serve_between<
 /// Relays as many connections as the plan says, and then ends. One selector accepts them, over `net`, and hands each
 /// to a worker, the one whose number is that of the connection modulo the length of `more`. Each worker has a thread,
 /// a net of `more` and a selector of its own. It passes the test gate with its number and the connection's, puts the
-/// link into its net, connects it to the target, and relays. In its net its connections are numbered from 0 on, in
-/// their order.
+/// link into its net, connects it to the target, and relays.
 ///
 /// The workers work while further connections are accepted. Where no thread can be made, all connections are accepted
 /// first, and then the workers work one after another.
@@ -433,23 +418,13 @@ pub fn serve_many<
 ) -> Result<(Served, Pass), ManyError>
     requires plan { IsServable plan }
     requires workers { (1 ≤ length more.old.items) × (length more.old.items ≤ 15) }
-    requires fresh { (c : Channel) → IsUnused (N.link net.old c) }
-    requires unasked { (c : Channel) → N.place net.old c ≡ unused }
-    requires nets { All (IsFresh (meanings N.link N.place N.faults N.poll_faults)) more.old.items }
-    ensures serves { ServesMany (meanings N.link N.place N.faults N.poll_faults) plan net.old net.new more.old.items
-        more.new.items (served_of result) }
-    ensures relays { RelayBytes (meanings N.link N.place N.faults N.poll_faults) more.new.items }
-    ensures leaves { LeavesAcceptor (meanings N.link N.place N.faults N.poll_faults) plan net.old net.new }
-    ensures workers { LeavesWorkers (meanings N.link N.place N.faults N.poll_faults) plan more.new.items }
-    ensures accepts { AreAccepted plan.conns (N.accepted net.old) (N.accepted net.new) (served_of result) }
+    requires fresh { IsFresh (view_of N.Net net.old) }
+    requires nets { All (λ x. IsFresh (view_of N.Net x)) more.old.items }
+    ensures serves { ServesMany N.Net plan net.old net.new more.old.items more.new.items (served_of result) }
     ensures count { length more.new.items ≡ length more.old.items }
-    ensures handed { AreHanded plan.conns (length more.old.items) handed.old handed.new
-        (served_of result) }
-    ensures links { AccountsForLinks (meanings N.link N.place N.faults N.poll_faults) (N.accepted net.old)
-        (N.accepted net.new) more.old.items more.new.items handed.old handed.new (served_of result) }
-    ensures complete { NoneRoseOfAll (meanings N.link N.place N.faults N.poll_faults) net.old net.new more.old.items
-        more.new.items → ServesAllCleanOr (meanings N.link N.place N.faults N.poll_faults) plan more.new.items
-        (served_of result) }
+    ensures handed { AreHanded N.Net plan.conns more.new.items handed.old handed.new (served_of result) }
+    ensures links { AccountsForLinks N.Net (N.accepted net.old) (N.accepted net.new) more.old.items more.new.items
+        handed.old handed.new (served_of result) }
 
     // What the pass has seen.
     ensures pass { IfOk result (λ done. HoldsAll (table_for (length more.old.items)) done.1) }

@@ -2,7 +2,7 @@
 //! it. Where the table refuses a call that is answered as want of memory.
 ghost use Rattle.std.specs.Prelude.{◌≡◌, ◌+◌, ◌<◌, ◌≤◌, IfOk, IfSome, IfNone, OnOk, length};
 ghost use Rattle.nio_base.specs.Limits.{IsFit};
-ghost use Rattle.nio_serve.specs.Called.{HasCalled};
+ghost use Rattle.nio_board.specs.Called.{HasCalled};
 ghost use Rattle.nio_words.specs.Passes.{IsFirstPass, IsPassOf, IsReady, acts_seen, limits_of};
 ghost use Rattle.nio_reactor.specs.Placing.{caller, table_for};
 ghost use Rattle.nio_reactor.specs.Seats.{AreNewcomers, HaveDrawn, HaveSeats, IsNewcomer, IsSeat, acceptor_deal};
@@ -10,10 +10,10 @@ ghost use Rattle.nio_reactor.specs.Seats.{deal_of};
 
 use crate::handed::LISTENER;
 use nio_base::{CallerNo, ChanId, ChanNo, Kind, Limits};
+use nio_board::{Board, Deal};
 use nio_channel::open_channel;
 use nio_keys::find_selector;
 use nio_select::open_selector;
-use nio_serve::{Board, Deal};
 use nio_words::{Pass, Words};
 use std::alloc::{AllocError, Global};
 
@@ -41,7 +41,7 @@ pub(crate) fn acceptor_share() -> Deal
     Deal {
         workers: 1,
         worker: 0,
-        listener: LISTENER,
+        listener: LISTENER.number,
     }
 }
 

@@ -2,13 +2,14 @@
 ghost use Rattle.std.specs.Prelude.{◌≡◌, ◌≢◌, ◌+◌, ◌<◌, ◌≤◌, false, All, length};
 ghost use Rattle.std.specs.Fork.{AcceptsEach, ChangesEach};
 ghost use Rattle.std.specs.Thread.{IsSend, IsSync};
+ghost use Rattle.nio_link.specs.Nets.{view_of};
+ghost use Rattle.nio_serve.specs.Serving.{IsFresh};
 ghost use Rattle.nio_reactor.specs.Dealing.{share};
 ghost use Rattle.nio_reactor.specs.Doors.{worker_at};
-ghost use Rattle.nio_reactor.specs.Many.{meanings};
 ghost use Rattle.nio_reactor.specs.Placing.{caller};
 ghost use Rattle.nio_reactor.specs.Receiving.{HasReceived, HaveReceived, is_early};
 ghost use Rattle.nio_reactor.specs.Seats.{HaveSeats, IsNewcomer, LeaveSeats, LeavesSeat, channels_for, deal_of};
-ghost use Rattle.nio_reactor.specs.Working.{HasWorked, HaveWorked, IsFresh};
+ghost use Rattle.nio_reactor.specs.Working.{HasWorked, HaveWorked};
 ghost use Rattle.nio_reactor.specs.declared.door.Door.TheVariants.{Unasked};
 
 use crate::by_line::ByLine;
@@ -18,9 +19,10 @@ use crate::lines::Lines;
 use crate::many::ManyError;
 use crate::table::{leave_seat, share_for, take_seat};
 use nio_base::Gate;
+use nio_board::Deal;
 use nio_link::Passable;
 use nio_relay::{ProxyPlan, Served};
-use nio_serve::{Deal, ServeError, serve_on};
+use nio_serve::{ServeError, serve_on};
 use nio_words::Words;
 use std::alloc::Global;
 use std::sync::Wait;
@@ -54,12 +56,12 @@ fn work_share<R: Wait, H: Wait, N: Passable, K: Lines<N::Link>, G: Gate>(
 ) -> Result<Served, ServeError>
     requires conns { plan.conns ≤ 16000 }
     requires one { deal.worker < 16 }
-    requires fresh { IsFresh (meanings N.link N.place N.faults N.poll_faults) worker.old.lane.net }
+    requires fresh { IsFresh (view_of N.Net worker.old.lane.net) }
     requires door { worker.old.lane.door ≡ Unasked }
     requires on_time { is_early worker.old.lane.heard ≡ false }
     requires newcomer { IsNewcomer words.now worker.old.pass (caller (deal.worker + 1)) }
-    ensures worked { HasWorked (meanings N.link N.place N.faults N.poll_faults) plan.target plan.conns
-        worker.old.lane.net worker.new.lane.net (is_early worker.new.lane.heard) result }
+    ensures worked { HasWorked N.Net plan.target plan.conns worker.old.lane.net worker.new.lane.net
+        worker.new.lane.put (is_early worker.new.lane.heard) result }
     ensures received { HasReceived (worker_at plan.listen) plan.conns worker.new.lane.line worker.new.lane.worker
         worker.new.lane.put result }
     ensures leaves { LeavesSeat words.now (deal.worker + 1) deal (channels_for plan.conns) worker.new.pass result }
@@ -93,13 +95,12 @@ fn work<R: Wait, N: Passable, K: Lines<N::Link>, G: Gate>(
     requires few { workers < 16 }
     requires one { number < 16 }
     requires conns { plan.conns ≤ 16000 }
-    requires fresh { IsFresh (meanings N.link N.place N.faults N.poll_faults) worker.old.lane.net }
+    requires fresh { IsFresh (view_of N.Net worker.old.lane.net) }
     requires door { worker.old.lane.door ≡ Unasked }
     requires on_time { is_early worker.old.lane.heard ≡ false }
     requires newcomer { IsNewcomer words.now worker.old.pass (caller (number + 1)) }
-    ensures worked { HasWorked (meanings N.link N.place N.faults N.poll_faults) plan.target
-        (share workers number plan.conns) worker.old.lane.net worker.new.lane.net (is_early worker.new.lane.heard)
-        worker.new.lane.outcome }
+    ensures worked { HasWorked N.Net plan.target (share workers number plan.conns) worker.old.lane.net
+        worker.new.lane.net worker.new.lane.put (is_early worker.new.lane.heard) worker.new.lane.outcome }
     ensures received { HasReceived number (share workers number plan.conns) worker.new.lane.line
         worker.new.lane.worker worker.new.lane.put worker.new.lane.outcome }
     ensures leaves { LeavesSeat words.now (number + 1) (deal_of workers number plan.conns)
@@ -160,13 +161,13 @@ pub(crate) fn work_all<
 ) -> Result<(), ManyError>
     requires few { length workers.old ≤ 15 }
     requires conns { plan.conns ≤ 16000 }
-    requires fresh { All (λ x. IsFresh (meanings N.link N.place N.faults N.poll_faults) x.lane.net) workers.old }
+    requires fresh { All (λ x. IsFresh (view_of N.Net x.lane.net)) workers.old }
     requires doors { All (λ x. x.lane.door ≡ Unasked) workers.old }
     requires on_time { All (λ x. is_early x.lane.heard ≡ false) workers.old }
     requires seats { HaveSeats words.now (λ x. x.pass) workers.old }
     requires able { A.pre accept.old }
     ensures accepted { A.step accept.old result accept.new }
-    ensures worked { HaveWorked (meanings N.link N.place N.faults N.poll_faults) plan (λ x. x.lane.net)
+    ensures worked { HaveWorked N.Net plan (λ x. x.lane.net) (λ x. x.lane.put)
         (λ x. is_early x.lane.heard) (λ x. x.lane.outcome) workers.old workers.new }
     ensures received { HaveReceived plan (λ x. x.lane.line) (λ x. x.lane.worker) (λ x. x.lane.put)
         (λ x. x.lane.outcome) workers.old workers.new }
@@ -181,12 +182,11 @@ pub(crate) fn work_all<
         threads,
         &|number, worker|
             requires { (number < 16) × (count ≢ 0) × (count < 16) × (plan.conns ≤ 16000)
-                × IsFresh (meanings N.link N.place N.faults N.poll_faults) worker.old.lane.net
+                × IsFresh (view_of N.Net worker.old.lane.net)
                 × (worker.old.lane.door ≡ Unasked) × (is_early worker.old.lane.heard ≡ false)
                 × IsNewcomer words.now worker.old.pass (caller (number + 1)) }
-            ensures { HasWorked (meanings N.link N.place N.faults N.poll_faults) plan.target
-                (share count number plan.conns) worker.old.lane.net worker.new.lane.net
-                (is_early worker.new.lane.heard) worker.new.lane.outcome
+            ensures { HasWorked N.Net plan.target (share count number plan.conns) worker.old.lane.net
+                worker.new.lane.net worker.new.lane.put (is_early worker.new.lane.heard) worker.new.lane.outcome
                 × HasReceived number (share count number plan.conns) worker.new.lane.line worker.new.lane.worker
                 worker.new.lane.put worker.new.lane.outcome
                 × LeavesSeat words.entry.now (number + 1) (deal_of count number plan.conns)

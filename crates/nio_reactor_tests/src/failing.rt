@@ -1,7 +1,7 @@
 //! The proxy with several selectors over nets that fail: each of the first polls of each net, an accept, a connect and
 //! a write. Two workers serve two connections.
 use crate::nets::{ANYWHERE, Failures, NO_FAILURES, Part, Peer, SENDER, serves};
-use nio_base::{ChanNo, NoGate};
+use nio_base::{ChanId, ChanNo, NoGate};
 use nio_link::MemoryNet;
 use nio_reactor::ManyError;
 use nio_relay::Served;
@@ -155,23 +155,28 @@ fn later(fails: Failures, more: u64) -> Failures {
     }
 }
 
+/// The first channel of this number.
+fn first(number: u32) -> ChanId {
+    ChanId::first(ChanNo(number))
+}
+
 /// Whether no link stands under this channel, neither connected nor being connected.
-fn is_closed(net: &mut MemoryNet, chan: ChanNo) -> bool {
+fn is_closed(net: &mut MemoryNet, chan: ChanId) -> bool {
     net.shut_link(chan).is_err() && net.finish_link(chan).is_err()
 }
 
 /// Whether neither a listener nor a link stands in the net.
 fn is_vacant(net: &mut MemoryNet) -> bool {
-    net.listen_on(ChanNo(0), ANYWHERE).is_ok()
-        && is_closed(net, ChanNo(1))
-        && is_closed(net, ChanNo(2))
-        && is_closed(net, ChanNo(3))
-        && is_closed(net, ChanNo(4))
+    net.listen_on(first(0), ANYWHERE).is_ok()
+        && is_closed(net, first(1))
+        && is_closed(net, first(2))
+        && is_closed(net, first(3))
+        && is_closed(net, first(4))
 }
 
 /// Whether what was put on each link of the net's first connection begins what was read from the other.
 fn is_begun(net: &MemoryNet) -> bool {
-    let (client, target) = (ChanNo(1), ChanNo(2));
+    let (client, target) = (first(1), first(2));
     net.got_bytes(client).starts_with(net.put_bytes(target))
         && net.got_bytes(target).starts_with(net.put_bytes(client))
 }
@@ -185,7 +190,7 @@ where
     assert_eq!(rt; relayed.served, row.served, "{name} {more}");
     assert!(rt; is_vacant(&mut relayed.net.net), "{name} {more}");
     for (roomy, arrived) in relayed.more.iter_mut().zip(row.arrived.iter()) {
-        let count = roomy.net.put_bytes(ChanNo(2)).len();
+        let count = roomy.net.put_bytes(first(2)).len();
         assert_eq!(rt; arrived.unwrap_or(count), count, "{name} {more}");
         assert!(rt;
             is_begun(&roomy.net) && is_vacant(&mut roomy.net),

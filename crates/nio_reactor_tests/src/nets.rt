@@ -1,10 +1,9 @@
 //! Nets in memory, and the proxy over them.
-ghost use Rattle.std.specs.Prelude.{◌≡◌, ◌≤◌, All, IfOk, length};
-ghost use Rattle.nio_base.specs.declared.numbers.ChanNo.{ChanNo as Channel};
-ghost use Rattle.nio_link.specs.Links.{IsUnused};
-ghost use Rattle.nio_link.specs.Places.{places_after, unused};
-ghost use Rattle.nio_link.specs.Slots.{carried_at};
+ghost use Rattle.std.specs.Prelude.{◌≤◌, All, IfOk, length};
+ghost use Rattle.nio_link.specs.MemoryNet.{shown};
+ghost use Rattle.nio_link.specs.Nets.{view_of};
 ghost use Rattle.nio_relay.specs.Plan.{IsServable};
+ghost use Rattle.nio_serve.specs.Serving.{IsFresh};
 
 use crate::no_room::Roomy;
 use nio_base::{Addr, Gate};
@@ -94,8 +93,7 @@ pub(crate) fn net_of(
     fail_accept: Option<u64>,
     fail_poll: Option<u64>,
 ) -> Result<Roomy<MemoryNet>, AllocError>
-    ensures fresh { IfOk result (λ made. (c : Channel) → IsUnused (carried_at made.net.slots c)) }
-    ensures unasked { IfOk result (λ made. (c : Channel) → places_after made.net.changes c ≡ unused) }
+    ensures { IfOk result (λ made. IsFresh (shown made.net)) }
 {
     let mut plans = Vec::new(alloc);
     for peer in peers {
@@ -135,8 +133,7 @@ fn net_of_worker(
     failures: Failures,
     worker: usize,
 ) -> Result<Roomy<MemoryNet>, AllocError>
-    ensures fresh { IfOk result (λ made. (c : Channel) → IsUnused (carried_at made.net.slots c)) }
-    ensures unasked { IfOk result (λ made. (c : Channel) → places_after made.net.changes c ≡ unused) }
+    ensures { IfOk result (λ made. IsFresh (shown made.net)) }
 {
     let made = net_of(alloc, &[], None, poll_of(failures, Part::Worker(worker)))?;
     Ok(Roomy {
@@ -153,10 +150,7 @@ fn nets_of(
 ) -> Result<Vec<Roomy<MemoryNet>>, AllocError>
     ensures some { IfOk result (λ nets. 1 ≤ length nets.items) }
     ensures few { IfOk result (λ nets. length nets.items ≤ 15) }
-    ensures unused { IfOk result (λ nets. All (λ made. (c : Channel) → IsUnused (carried_at made.net.slots c))
-        nets.items) }
-    ensures unasked { IfOk result (λ nets. All (λ made. (c : Channel) → places_after made.net.changes c ≡ unused)
-        nets.items) }
+    ensures fresh { IfOk result (λ nets. All (λ made. IsFresh (shown made.net)) nets.items) }
 {
     let mut nets = Vec::new(alloc);
     for _ in 0..workers.clamp(1, 15) {
@@ -184,10 +178,8 @@ pub(crate) fn serve_fresh<
     requires plan { IsServable plan }
     requires some { 1 ≤ length more.old.items }
     requires few { length more.old.items ≤ 15 }
-    requires unused { (c : Channel) → IsUnused (N.link net.old c) }
-    requires unasked { (c : Channel) → N.place net.old c ≡ unused }
-    requires unused_each { All (λ x. (c : Channel) → IsUnused (N.link x c)) more.old.items }
-    requires unasked_each { All (λ x. (c : Channel) → N.place x c ≡ unused) more.old.items }
+    requires fresh { IsFresh (view_of N.Net net.old) }
+    requires fresh_each { All (λ x. IsFresh (view_of N.Net x)) more.old.items }
 {
     serve_many(rt, alloc, net, more, bells, gate, plan, &mut Trace::new())
 }

@@ -1,6 +1,6 @@
 //! A net that may have no memory for links that are put in.
 
-use nio_base::{Addr, ChanNo};
+use nio_base::{Addr, ChanId};
 use nio_history::Mode;
 use nio_link::{Failed, Got, Net, Passable, Put};
 use nio_poller::{PollError, Poller};
@@ -48,35 +48,35 @@ impl<N: Passable> Net for Roomy<N> {
 
     ghost accepted = { λ n. N.accepted n.net };
 
-    fn listen(&mut self, chan: ChanNo, at: Addr) -> Result<(), Failed> {
+    fn listen(&mut self, chan: ChanId, at: Addr) -> Result<(), Failed> {
         self.net.listen(chan, at)
     }
 
-    fn accept(&mut self, listener: ChanNo, chan: ChanNo) -> Result<bool, Failed> {
+    fn accept(&mut self, listener: ChanId, chan: ChanId) -> Result<bool, Failed> {
         self.net.accept(listener, chan)
     }
 
-    fn connect(&mut self, chan: ChanNo, to: Addr) -> Result<bool, Failed> {
+    fn connect(&mut self, chan: ChanId, to: Addr) -> Result<bool, Failed> {
         self.net.connect(chan, to)
     }
 
-    fn finish_connect(&mut self, chan: ChanNo) -> Result<bool, Failed> {
+    fn finish_connect(&mut self, chan: ChanId) -> Result<bool, Failed> {
         self.net.finish_connect(chan)
     }
 
-    fn read(&mut self, chan: ChanNo, into: &mut [u8]) -> Result<Got, Failed> {
+    fn read(&mut self, chan: ChanId, into: &mut [u8]) -> Result<Got, Failed> {
         self.net.read(chan, into)
     }
 
-    fn write(&mut self, chan: ChanNo, from: &[u8]) -> Result<Put, Failed> {
+    fn write(&mut self, chan: ChanId, from: &[u8]) -> Result<Put, Failed> {
         self.net.write(chan, from)
     }
 
-    fn shut_write(&mut self, chan: ChanNo) -> Result<(), Failed> {
+    fn shut_write(&mut self, chan: ChanId) -> Result<(), Failed> {
         self.net.shut_write(chan)
     }
 
-    fn close(&mut self, chan: ChanNo) {
+    fn close(&mut self, chan: ChanId) {
         self.net.close(chan)
     }
 
@@ -92,11 +92,11 @@ impl<N: Passable> Net for Roomy<N> {
 impl<N: Passable> Passable for Roomy<N> {
     type Link = N::Link;
 
-    fn take_out(&mut self, chan: ChanNo) -> Option<N::Link> {
+    fn take_out(&mut self, chan: ChanId) -> Option<N::Link> {
         self.net.take_out(chan)
     }
 
-    fn put_in(&mut self, chan: ChanNo, link: N::Link) -> Result<(), N::Link> {
+    fn put_in(&mut self, chan: ChanId, link: N::Link) -> Result<(), N::Link> {
         if self.has_room {
             self.net.put_in(chan, link)
         } else {

@@ -1,6 +1,6 @@
 //! Which bytes arrive in which net, and how the proxy ends.
 use crate::nets::{Failures, NO_FAILURES, OF_CLIENT, SENDER, bytes, serves};
-use nio_base::{CallerNo, ChanNo, NoGate};
+use nio_base::{CallerNo, ChanId, ChanNo, NoGate};
 use nio_reactor::ManyError;
 use nio_relay::Served;
 use nio_words::Pass;
@@ -86,8 +86,10 @@ fn bytes_arrive_at_the_targets(rt: HostRuntime) -> Result<(), Fail> {
             assert!(rt; has_numbers(pass, row.workers), "{}", row.name);
         }
         for (roomy, &(first, second)) in relayed.more.iter().zip(row.arrived) {
-            let first_arrived = roomy.net.put_bytes(ChanNo(2)) == first_of(&sent, first);
-            let second_arrived = roomy.net.put_bytes(ChanNo(4)) == first_of(&sent, second);
+            let first_arrived = roomy.net.put_bytes(ChanId::first(ChanNo(2)))
+                == first_of(&sent, first);
+            let second_arrived = roomy.net.put_bytes(ChanId::first(ChanNo(4)))
+                == first_of(&sent, second);
             assert!(rt; first_arrived && second_arrived, "{}", row.name);
         }
     }

@@ -4,4 +4,3 @@ pub mod Legal
 mod Named
 mod Serves
 mod Unsent
-mod Unserved

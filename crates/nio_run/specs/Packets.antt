@@ -1,7 +1,7 @@
 -- What `packets` does.
 use Rattle.std.specs.Prelude.{◌≡◌, ◌⊎◌, ℕ, ◌++◌, List, [], ◌∷◌, codes}
 use Rattle.std.specs.Fmt.{decimal}
-use Rattle.nio_base.specs.declared.numbers.ChanNo.{ChanNo}
+use Rattle.nio_base.specs.declared.numbers.ChanId.{ChanId}
 use Rattle.nio_bytes.specs.Cause.{Rose}
 use Rattle.nio_bytes.specs.declared.sink.Sink as sink
 use Rattle.nio_datagram.specs.Nets.{NoneFailed}
@@ -21,8 +21,8 @@ sent_line s = codes "forth " ++ decimal s.forth ++ codes " back " ++ decimal s.b
 
 -- As many packets of the client as the plan says were sent, no call on the net failed, and that was written and
 -- flushed.
-pub record AreSent {K : Type 0} (k : sink.Ghosts K) (plan : PacketPlan) (traffic : ChanNo → Traffic)
-    (place : ChanNo → Place) (before now : ChanNo → ℕ) (polls_before polls_now : ℕ) (output output' : K) : Type 0 where
+pub record AreSent {K : Type 0} (k : sink.Ghosts K) (plan : PacketPlan) (traffic : ChanId → Traffic)
+    (place : ChanId → Place) (before now : ChanId → ℕ) (polls_before polls_now : ℕ) (output output' : K) : Type 0 where
   pub served : PacketsServed
   pub has_relayed : HasRelayed plan traffic place served
   pub none_failed : NoneFailed before now polls_before polls_now
@@ -31,8 +31,8 @@ pub record AreSent {K : Type 0} (k : sink.Ghosts K) (plan : PacketPlan) (traffic
 
 -- As many packets of the client as the plan says were sent, no call on the net failed, and some of that was written,
 -- from its front.
-pub record AreSentUnsaid {K : Type 0} (k : sink.Ghosts K) (plan : PacketPlan) (traffic : ChanNo → Traffic)
-    (place : ChanNo → Place) (before now : ChanNo → ℕ) (polls_before polls_now : ℕ) (output output' : K) : Type 0 where
+pub record AreSentUnsaid {K : Type 0} (k : sink.Ghosts K) (plan : PacketPlan) (traffic : ChanId → Traffic)
+    (place : ChanId → Place) (before now : ChanId → ℕ) (polls_before polls_now : ℕ) (output output' : K) : Type 0 where
   pub served : PacketsServed
   pub has_relayed : HasRelayed plan traffic place served
   pub none_failed : NoneFailed before now polls_before polls_now
@@ -40,8 +40,8 @@ pub record AreSentUnsaid {K : Type 0} (k : sink.Ghosts K) (plan : PacketPlan) (t
 
 -- What `packets` does by this plan where it ends with this status. Traffic and places are those before it (named
 -- with a 0) and after it; so are the counts of faults, of channels and of polls (`before`, `now`).
-pub record DoesPackets {K : Type 0} (k : sink.Ghosts K) (plan : PacketPlan) (traffic0 traffic : ChanNo → Traffic)
-    (place0 place : ChanNo → Place) (before now : ChanNo → ℕ) (polls_before polls_now : ℕ) (output output' : K)
+pub record DoesPackets {K : Type 0} (k : sink.Ghosts K) (plan : PacketPlan) (traffic0 traffic : ChanId → Traffic)
+    (place0 place : ChanId → Place) (before now : ChanId → ℕ) (polls_before polls_now : ℕ) (output output' : K)
     (status : Status) : Type 0 where
   pub done : status ≡ Done → AreSent k plan traffic place before now polls_before polls_now output output'
   pub write_fault : status ≡ WriteFault

@@ -3,7 +3,7 @@ ghost use Rattle.std.specs.Prelude.{◌≡◌, ◌≤◌};
 ghost use Rattle.nio_datagram.specs.Packets.{no_traffic};
 ghost use Rattle.nio_datagram.specs.Serving.{client_chan, target_chan};
 ghost use Rattle.nio_relay.specs.Plan.{IsRelayable};
-ghost use Rattle.nio_datagram.specs.declared.net.Place.TheVariants as place_is;
+ghost use Rattle.nio_datagram.specs.Places.{IsFree};
 ghost use Rattle.nio_run.specs.Packets.{DoesPackets, sent_line};
 ghost use Rattle.nio_run.specs.Relays.{SaysLine};
 
@@ -25,8 +25,8 @@ pub fn relay_packets<R: Wait, K: Sink, D: PacketNet>(
     requires plan { IsRelayable plan }
     requires client_unused { D.traffic packets.old client_chan ≡ no_traffic }
     requires target_unused { D.traffic packets.old target_chan ≡ no_traffic }
-    requires client_unbound { D.place packets.old client_chan ≡ place_is.Unbound }
-    requires target_unbound { D.place packets.old target_chan ≡ place_is.Unbound }
+    requires client_free { IsFree (D.place packets.old) client_chan }
+    requires target_free { IsFree (D.place packets.old) target_chan }
     ensures packets { DoesPackets K.Sink plan (D.traffic packets.old) (D.traffic packets.new) (D.place packets.old)
         (D.place packets.new) (D.packet_faults packets.old) (D.packet_faults packets.new) (D.poll_faults packets.old)
         (D.poll_faults packets.new) output.old output.new result }

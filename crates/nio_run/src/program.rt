@@ -9,20 +9,18 @@ ghost use Rattle.nio_run.specs.Commands.{DoesScript, DoesCheck, WritesLegal};
 ghost use Rattle.nio_run.specs.Load.{DoesLoad};
 ghost use Rattle.nio_run.specs.Many.{DoesMany};
 ghost use Rattle.nio_run.specs.Packets.{DoesPackets};
-ghost use Rattle.nio_run.specs.Proxy.{AcceptsInOrder, DoesProxy, HasOneNet};
+ghost use Rattle.nio_run.specs.Proxy.{DoesProxy, HasOneNet};
 ghost use Rattle.nio_run.specs.Words.{IsUsage};
-ghost use Rattle.nio_base.specs.declared.numbers.ChanNo.{ChanNo};
 ghost use Rattle.nio_command.specs.Words.{IsScriptCommand, IsCheckCommand, IsCheckFirstCommand, IsRaceCommand};
 ghost use Rattle.nio_command.specs.Words.{BeginsPackets, BeginsProxy, HasOptions, IsLoadCommand, IsPacketsCommand};
 ghost use Rattle.nio_command.specs.Words.{IsProxyCommand, IsTimedCommand, SaysNothing};
 ghost use Rattle.nio_datagram.specs.Packets.{no_traffic};
 ghost use Rattle.nio_datagram.specs.Serving.{client_chan, target_chan};
-ghost use Rattle.nio_datagram.specs.declared.net.Place.TheVariants as place_is;
+ghost use Rattle.nio_datagram.specs.Places.{IsFree};
 ghost use Rattle.nio_relay.specs.declared.plan.PacketPlan.{PacketPlan};
-ghost use Rattle.nio_link.specs.Links.{IsUnused};
-ghost use Rattle.nio_link.specs.Places.{unused};
+ghost use Rattle.nio_link.specs.Nets.{view_of};
 ghost use Rattle.nio_race.specs.Does.{DoesRace};
-ghost use Rattle.nio_reactor.specs.Many.{meanings};
+ghost use Rattle.nio_serve.specs.Serving.{IsFresh};
 ghost use Rattle.nio_command.specs.declared.way.ProxyWay.{ProxyWay};
 ghost use Rattle.nio_command.specs.declared.way.ProxyWay.TheVariants.{Many};
 ghost use Rattle.nio_relay.specs.declared.plan.ProxyPlan.{ProxyPlan};
@@ -90,14 +88,12 @@ where
     B: Bell + Sync + Drop,
     requires first { IsFirstPass table.now pass.old }
     requires limits { limits_of table.now ≡ PROGRAM_LIMITS }
-    requires fresh { (c : ChanNo) → IsUnused (N.link net c) }
-    requires unasked { (c : ChanNo) → N.place net c ≡ unused }
-    requires more_fresh { All (λ x. (c : ChanNo) → IsUnused (N.link x c)) more.old.items }
-    requires more_unasked { All (λ x. (c : ChanNo) → N.place x c ≡ unused) more.old.items }
+    requires fresh { IsFresh (view_of N.Net net) }
+    requires more { All (λ x. IsFresh (view_of N.Net x)) more.old.items }
     requires client_unused { D.traffic packets.old client_chan ≡ no_traffic }
     requires target_unused { D.traffic packets.old target_chan ≡ no_traffic }
-    requires client_unbound { D.place packets.old client_chan ≡ place_is.Unbound }
-    requires target_unbound { D.place packets.old target_chan ≡ place_is.Unbound }
+    requires client_free { IsFree (D.place packets.old) client_chan }
+    requires target_free { IsFree (D.place packets.old) target_chan }
 
     // The words are looked at first. There may be no memory to read the options of `proxy` or of `packets`.
     ensures usage { result.status ≡ Status.Usage → SaysNothing (map string_bytes words.now) }
@@ -132,17 +128,14 @@ where
     ensures load_alone { (rounds : ℕ) → IsLoadCommand (map string_bytes words.now) rounds →
         input.new ≡ input.old }
     ensures proxy { (plan : ProxyPlan) (way : ProxyWay) → IsProxyCommand (map string_bytes words.now) plan way →
-        HasOneNet way → DoesProxy K.Sink plan (N.link result.net) (N.place result.net)
-        (N.faults net) (N.faults result.net) (N.poll_faults net) (N.poll_faults result.net) output.old output.new
+        HasOneNet way → DoesProxy K.Sink plan (view_of N.Net net) (view_of N.Net result.net) output.old output.new
         result.status }
-    ensures accepts { (plan : ProxyPlan) (way : ProxyWay) → IsProxyCommand (map string_bytes words.now) plan way →
-        AcceptsInOrder plan.conns (N.accepted net) (N.accepted result.net) result.status }
     ensures proxy_alone { BeginsProxy (map string_bytes words.now) →
         (input.new ≡ input.old) × (pass.new ≡ pass.old) }
     ensures many { (plan : ProxyPlan) (workers : ℕ)
         → IsProxyCommand (map string_bytes words.now) plan (Many workers)
-        → DoesMany K.Sink (meanings N.link N.place N.faults N.poll_faults) plan workers net result.net
-        more.old.items more.new.items output.old output.new result.status }
+        → DoesMany K.Sink N.Net plan workers net result.net more.old.items more.new.items output.old output.new
+        result.status }
     ensures no_workers { ((plan : ProxyPlan) (workers : ℕ)
         → IsProxyCommand (map string_bytes words.now) plan (Many workers) → ⊥)
         → more.new ≡ more.old }

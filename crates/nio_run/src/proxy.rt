@@ -1,18 +1,16 @@
 //! The command `proxy`.
 ghost use Rattle.std.specs.Prelude.{◌≡◌, ◌≤◌, ℕ, All};
-ghost use Rattle.nio_base.specs.declared.numbers.ChanNo.{ChanNo};
 ghost use Rattle.nio_bytes.specs.Cause.{Rose};
-ghost use Rattle.nio_link.specs.Links.{IsUnused};
-ghost use Rattle.nio_link.specs.Places.{unused};
-ghost use Rattle.nio_reactor.specs.Many.{meanings};
+ghost use Rattle.nio_link.specs.Nets.{view_of};
 ghost use Rattle.nio_relay.specs.Plan.{IsServable};
+ghost use Rattle.nio_serve.specs.Serving.{IsFresh};
 ghost use Rattle.nio_run.specs.Many.{DoesMany};
-ghost use Rattle.nio_run.specs.Proxy.{AcceptsInOrder, DoesProxy, HasOneNet, HasWorkers, SaysOutcome, served_line};
+ghost use Rattle.nio_run.specs.Proxy.{DoesProxy, HasOneNet, HasWorkers, SaysOutcome, served_line};
 ghost use Rattle.nio_run.specs.Relays.{EndsRelay, SaysLine};
 ghost use Rattle.nio_tickets.specs.Answers.{serve_answer_of};
 
 use crate::ended::Ended;
-use crate::many::serve_by_workers;
+use crate::many::{many_answer, serve_over_first};
 use nio_base::Gate;
 use nio_bytes::Sink;
 use nio_command::ProxyWay;
@@ -47,17 +45,14 @@ where
     R: Threads + Wait + RandomSource + AllocGlobal + Sync,
     requires plan { IsServable plan }
     requires way { HasWorkers way }
-    requires fresh { (c : ChanNo) → IsUnused (N.link net c) }
-    requires unasked { (c : ChanNo) → N.place net c ≡ unused }
-    requires more_fresh { All (λ x. (c : ChanNo) → IsUnused (N.link x c)) more.old.items }
-    requires more_unasked { All (λ x. (c : ChanNo) → N.place x c ≡ unused) more.old.items }
-    ensures proxy { HasOneNet way → DoesProxy K.Sink plan (N.link result.net) (N.place result.net) (N.faults net)
-        (N.faults result.net) (N.poll_faults net) (N.poll_faults result.net) output.old output.new result.status }
+    requires fresh { IsFresh (view_of N.Net net) }
+    requires more { All (λ x. IsFresh (view_of N.Net x)) more.old.items }
+    ensures proxy { HasOneNet way → DoesProxy K.Sink plan (view_of N.Net net) (view_of N.Net result.net) output.old
+        output.new result.status }
     ensures alone { HasOneNet way → more.new ≡ more.old }
     ensures many { (workers : ℕ) → way ≡ ProxyWay.Many workers
-        → DoesMany K.Sink (meanings N.link N.place N.faults N.poll_faults) plan workers net result.net more.old.items
-        more.new.items output.old output.new result.status }
-    ensures accepts { AcceptsInOrder plan.conns (N.accepted net) (N.accepted result.net) result.status }
+        → DoesMany K.Sink N.Net plan workers net result.net more.old.items more.new.items output.old output.new
+        result.status }
     ensures ends { EndsRelay result.status }
     ensures rose { result.status ≡ Status.WriteFault → Rose (K.faults output.old) (K.faults output.new) }
     ensures later { K.faults output.old ≤ K.faults output.new }
@@ -89,10 +84,11 @@ where
         }
         ProxyWay::Many(workers) => {
             let mut net = net;
-            let status = serve_by_workers(
-                rt, alloc, output, &mut net, more, bells, gate, plan, workers,
-            );
-            Ended { status, net }
+            let served = serve_over_first(rt, alloc, &mut net, more, bells, gate, plan, workers);
+            Ended {
+                status: say(alloc, output, many_answer(served)),
+                net,
+            }
         }
     }
 }
@@ -120,8 +116,8 @@ fn say<K: Sink>(alloc: Global, output: &mut K, served: Result<Served, ServeError
     }
 }
 
-/// Says how many connections were served.
-pub fn say_served<K: Sink>(alloc: Global, output: &mut K, served: Served) -> Status
+// Says how many connections were served.
+fn say_served<K: Sink>(alloc: Global, output: &mut K, served: Served) -> Status
     ensures said { SaysLine K.Sink (served_line served) output.old output.new result }
     ensures later { K.faults output.old ≤ K.faults output.new }
 {

@@ -1,11 +1,10 @@
 //! The program as a whole, over sources and sinks in memory.
 ghost use Rattle.std.specs.Prelude.{◌≡◌, All};
-ghost use Rattle.nio_base.specs.declared.numbers.ChanNo.{ChanNo};
 ghost use Rattle.nio_datagram.specs.Packets.{no_traffic};
+ghost use Rattle.nio_datagram.specs.Places.{IsFree};
 ghost use Rattle.nio_datagram.specs.Serving.{client_chan, target_chan};
-ghost use Rattle.nio_datagram.specs.declared.net.Place.TheVariants as place_is;
-ghost use Rattle.nio_link.specs.Links.{IsUnused};
-ghost use Rattle.nio_link.specs.Places.{unused};
+ghost use Rattle.nio_link.specs.Nets.{view_of};
+ghost use Rattle.nio_serve.specs.Serving.{IsFresh};
 
 use nio_base::{Gate, NoGate};
 use nio_bytes::{MemorySink, MemorySource, Sink, Source};
@@ -353,8 +352,7 @@ fn runs<R, S: Source, K: Sink, N: Passable + Send + Drop, B: Bell + Sync + Drop>
 ) -> Result<(u8, N), AllocError>
 where
     R: Threads + Wait + RandomSource + AllocGlobal + Sync,
-    requires fresh { (c : ChanNo) → IsUnused (N.link net c) }
-    requires unasked { (c : ChanNo) → N.place net c ≡ unused }
+    requires { IsFresh (view_of N.Net net) }
 {
     let mut more = Vec::new(alloc);
     runs_with(
@@ -394,10 +392,8 @@ fn runs_with<
 ) -> Result<(u8, N), AllocError>
 where
     R: Threads + Wait + RandomSource + AllocGlobal + Sync,
-    requires fresh { (c : ChanNo) → IsUnused (N.link net c) }
-    requires unasked { (c : ChanNo) → N.place net c ≡ unused }
-    requires more_fresh { All (λ x. (c : ChanNo) → IsUnused (N.link x c)) more.old.items }
-    requires more_unasked { All (λ x. (c : ChanNo) → N.place x c ≡ unused) more.old.items }
+    requires fresh { IsFresh (view_of N.Net net) }
+    requires more { All (λ x. IsFresh (view_of N.Net x)) more.old.items }
 {
     let mut packets = MemoryPackets::make(alloc, Vec::new(alloc), Vec::new(alloc), None)?;
     runs_over(
@@ -432,14 +428,12 @@ fn runs_over<R, S: Source, K: Sink, N, D: PacketNet, B: Bell + Sync + Drop, G: G
 where
     R: Threads + Wait + RandomSource + AllocGlobal + Sync,
     N: Passable + Send + Drop,
-    requires fresh { (c : ChanNo) → IsUnused (N.link net c) }
-    requires unasked { (c : ChanNo) → N.place net c ≡ unused }
-    requires more_fresh { All (λ x. (c : ChanNo) → IsUnused (N.link x c)) more.old.items }
-    requires more_unasked { All (λ x. (c : ChanNo) → N.place x c ≡ unused) more.old.items }
+    requires fresh { IsFresh (view_of N.Net net) }
+    requires more { All (λ x. IsFresh (view_of N.Net x)) more.old.items }
     requires client_unused { D.traffic packets.old client_chan ≡ no_traffic }
     requires target_unused { D.traffic packets.old target_chan ≡ no_traffic }
-    requires client_unbound { D.place packets.old client_chan ≡ place_is.Unbound }
-    requires target_unbound { D.place packets.old target_chan ≡ place_is.Unbound }
+    requires client_free { IsFree (D.place packets.old) client_chan }
+    requires target_free { IsFree (D.place packets.old) target_chan }
 {
     let mut given = Vec::new(alloc);
     for word in words {

@@ -4,12 +4,12 @@ use Rattle.std.proofs.Common.{subst, ◌∙◌, arith, length-append, length-dro
 use Rattle.std.proofs.Math.ListN.{drop_of_length-le}
 use Rattle.std.proofs.Math.Seq.{drop-append_seam}
 use Rattle.std.proofs.lemmas.List.{append-nil, length-take}
-use Rattle.nio_base.specs.declared.numbers.ChanNo.{ChanNo}
-use Rattle.nio_link.proofs.Channels.{all_same}
+use Rattle.nio_base.specs.declared.numbers.ChanId.{ChanId}
+use Rattle.nio_link.proofs.Channels.{all_same, channel_is_or_not}
 use Rattle.nio_relay.specs.Flow.{Flow, IsLawful, buffered, takes, writes}
 use Rattle.nio_base.specs.Ops.{is_within}
-use Rattle.nio_serve.specs.declared.way.Way.{Ghosts}
-use Rattle.nio_serve.specs.Nets.{Works}
+use Rattle.nio_link.specs.Nets.{Members}
+use Rattle.nio_serve.specs.Nets.{AreApart, Works}
 use Rattle.nio_serve.specs.Passing.{Passes}
 use Rattle.nio_serve.specs.Relaying.{KeepsSink, KeepsSource, SameSink, SameSource}
 use Rattle.nio_serve.proofs.Ends.{end_moved, end_sink, end_source}
@@ -44,8 +44,8 @@ buffered_new f bytes lawful none =
     let all : f.taken ≡ w = sym begins ∙ ap (λ xs. w ++ xs) (sym rest_is ∙ none) ∙ append-nil w in
     ap (λ xs. drop (length w) (xs ++ bytes)) all ∙ drop-append_seam w bytes
 
-module _ {W N : Type 0} (n : Ghosts W N) where
-  pub passes_then : (a b : ChanNo) (f g h : Flow) (x y z : N) → Passes n a b f g x y → Passes n a b g h y z
+module _ {N : Type 0} (n : Members N) where
+  pub passes_then : (a b : ChanId) (f g h : Flow) (x y z : N) → Passes n a b f g x y → Passes n a b g h y z
       → Passes n a b f h x z
   passes_then a b f g h x y z first second = record {
     work = works_then n a b x y z first.work second.work;
@@ -58,34 +58,35 @@ module _ {W N : Type 0} (n : Ghosts W N) where
   }
 
   -- where only the link a was read
-  pub passes_read : (a b : ChanNo) (f g : Flow) (x y : N) → a ≢ b → Works n a a x y
+  pub passes_read : (a b : ChanId) (f g : Flow) (x y : N) → AreApart a b → Works n a a x y
       → KeepsSource f g (n.link x a) (n.place x a) (n.link y a) (n.place y a) → SameSink f g
-      → n.place y a ≡ n.place x a → (IsTrue (is_within 4 (n.ready x a)) → IsTrue (is_within 4 (n.ready y a)))
+      → n.place y a ≡ n.place x a → (IsTrue (is_within 4 (n.ready x a.number)) → IsTrue (is_within 4 (n.ready y a.number)))
       → Passes n a b f g x y
   passes_read a b f g x y apart work source same stands write =
-      let not : b ≢ a = λ at. apart (sym at) in
+      let not : b ≢ a = λ at. apart.0 (sym at) in
+      let else_ : b.number ≢ a.number = λ at. apart.1 (sym at) in
       record {
         work = works_first n a b x y work;
         source = source;
         sink = λ outgoing is. end_moved (work.links b not not) (work.places b not not) (end_sink outgoing same is);
-        places = all_same a (n.place x) (n.place y) stands (λ c other. work.places c other other);
+        places = all_same channel_is_or_not a (n.place x) (n.place y) stands (λ c other. work.places c other other);
         shut = same.shut;
         write = write;
-        read = λ ready. subst (λ ops. IsTrue (is_within 1 ops)) (sym (work.ready b not not)) ready;
+        read = λ ready. subst (λ ops. IsTrue (is_within 1 ops)) (sym (work.ready b.number else_ else_)) ready;
       }
 
   -- where only the link b was written
-  pub passes_write : (a b : ChanNo) (f g : Flow) (x y : N) → a ≢ b → Works n b b x y
+  pub passes_write : (a b : ChanId) (f g : Flow) (x y : N) → AreApart a b → Works n b b x y
       → KeepsSink f g (n.link x b) (n.place x b) (n.link y b) (n.place y b) → SameSource f g
       → n.place y b ≡ n.place x b → g.shut ≡ f.shut
-      → (IsTrue (is_within 1 (n.ready x b)) → IsTrue (is_within 1 (n.ready y b))) → Passes n a b f g x y
+      → (IsTrue (is_within 1 (n.ready x b.number)) → IsTrue (is_within 1 (n.ready y b.number))) → Passes n a b f g x y
   passes_write a b f g x y apart work sink same stands shut read = record {
     work = works_second n a b x y work;
     source = λ incoming is.
-        end_moved (work.links a apart apart) (work.places a apart apart) (end_source incoming same is);
+        end_moved (work.links a apart.0 apart.0) (work.places a apart.0 apart.0) (end_source incoming same is);
     sink = sink;
-    places = all_same b (n.place x) (n.place y) stands (λ c other. work.places c other other);
+    places = all_same channel_is_or_not b (n.place x) (n.place y) stands (λ c other. work.places c other other);
     shut = shut;
-    write = λ ready. subst (λ ops. IsTrue (is_within 4 ops)) (sym (work.ready a apart apart)) ready;
+    write = λ ready. subst (λ ops. IsTrue (is_within 4 ops)) (sym (work.ready a.number apart.1 apart.1)) ready;
     read = read;
   }

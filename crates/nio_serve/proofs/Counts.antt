@@ -2,7 +2,7 @@
 use Rattle.std.proofs.Common.{◌≡◌, ◌≢◌, ℕ, zero, suc, ◌+◌, ◌<◌, ◌≤◌, inl, inr, Bool, true, false, IsTrue, if◌then◌else◌}
 use Rattle.std.proofs.Common.{refl, sym, ap, ◌∙◌, arith}
 use Rattle.std.proofs.lemmas.Bool.{cases_order}
-use Rattle.nio_serve.specs.Serving.{count_below}
+use Rattle.nio_serve.specs.Slots.{count_below}
 
 abbrev pub one_if : Bool → ℕ
 one_if b = if b then 1 else 0

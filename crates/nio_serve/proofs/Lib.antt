@@ -1,17 +1,13 @@
 mod Begun
 pub mod Bits
-mod BoardCalls
-pub mod Calls
 mod Carrying
+mod Clients
 mod Connecting
 pub mod Counts
-mod Dealt
 mod Ends
-pub mod Idle
 pub mod Promise
 mod Ordered
-mod Resolved
 pub mod Slotting
-mod TableCalls
 pub mod Watching
+pub mod Ways
 pub mod Working

@@ -4,7 +4,7 @@ use Rattle.std.proofs.lemmas.List.{get_or_default}
 use Rattle.std.proofs.lemmas.List.Elements.{All-get_or}
 use Rattle.nio_base.specs.declared.numbers.ChanNo.{ChanNo}
 use Rattle.nio_base.specs.Ops.{is_within}
-use Rattle.nio_serve.specs.Board.{AreOrdered, AreReady}
+use Rattle.nio_board.specs.Board.{AreOrdered, AreReady}
 
 -- the number at a later index isn't less
 rises : (told : List (ChanNo × ℕ)) (i j : ℕ) (d e : ChanNo × ℕ) → AreOrdered told → i ≤ j → j < length told

@@ -6,28 +6,31 @@ use Rattle.std.proofs.Math.Path.{subst₂}
 use Rattle.std.proofs.lemmas.Bool.{both_ways, cases_eq}
 use Rattle.std.proofs.lemmas.Option.{slice_get_past, slice_get_within}
 use Rattle.nio_base.specs.declared.numbers.Addr.{Addr}
+use Rattle.nio_base.specs.Numbers.{first_channel}
+use Rattle.nio_base.specs.declared.numbers.ChanId.{ChanId}
 use Rattle.nio_base.specs.declared.numbers.ChanNo.{ChanNo}
 use Rattle.nio_bytes.specs.Cause.{Rose}
 use Rattle.nio_link.specs.Links.{Link, IsSameBut, IsUnused}
-use Rattle.nio_link.specs.Places.{unused, IsVacant}
+use Rattle.nio_link.specs.Places.{channel, never_asked, IsFree, IsVacant}
 use Rattle.nio_link.specs.declared.place.Place.{Place}
 use Rattle.nio_link.specs.declared.place.Role.{Role}
-use Rattle.nio_link.specs.declared.place.Role.TheVariants as role
-use Rattle.nio_link.specs.declared.place.Standing.TheVariants.{Nothing}
-use Rattle.nio_serve.specs.Serving.{HasFaulted, IsUnfaulted, client_of, target_of, listener, clients_below, count_below}
-use Rattle.nio_serve.specs.declared.way.Way.{Ghosts}
+use Rattle.nio_serve.specs.Serving.{HasFaulted, IsUnfaulted, IsUntouched, listener}
+use Rattle.nio_serve.specs.Slots.{client_at, target_at, clients_below, count_below}
+use Rattle.nio_link.specs.Nets.{Members}
 use Rattle.nio_serve.specs.Nets.{Begins, FailsToAccept, IsQuiet, Works}
 use Rattle.nio_serve.specs.Passing.{BothSame, OneRose}
+use Rattle.nio_serve.specs.Relaying.{carried, IsTarget, IsUnasked}
 use Rattle.nio_serve.specs.Slots.{IsSlot, IsUnbegun, HasRoles, IsSlotOf, IsSameButOne, AreSlots, AreServed}
 use Rattle.nio_serve.specs.Slots.{ListensAt, Serving}
-use Rattle.nio_serve.specs.Slots.{has_ended, has_faulted, was_accepted}
-use Rattle.nio_serve.specs.declared.board.Port.{Port}
+use Rattle.nio_serve.specs.Slots.{has_ended, has_faulted}
+use Rattle.nio_board.specs.declared.board.Port.{Port}
 use Rattle.nio_serve.specs.declared.connections.Connections.{Connections}
 use Rattle.nio_serve.specs.declared.slot.Relay.{Relay}
 use Rattle.nio_serve.specs.declared.slot.Slot.{Slot}
-use Rattle.nio_serve.specs.declared.slot.Slot.TheVariants.{Live, Unaccepted}
+use Rattle.nio_serve.specs.declared.slot.Slot.TheVariants.{Live}
+use Rattle.nio_serve.specs.declared.slot.Stage.TheVariants as stage
 use Rattle.nio_serve.specs.declared.spare.Spare.{Spare}
-use Rattle.nio_serve.proofs.Counts.{one_if, count-same, count_few, count_one}
+use Rattle.nio_serve.proofs.Counts.{one_if, count_few, count_one}
 use Rattle.nio_serve.proofs.Working.{rose_from, rose_on}
 
 -- ---- lists
@@ -45,33 +48,64 @@ get-push_other (y ∷ ys) (suc j) x other = get-push_other ys j x (λ same. othe
 
 -- ---- channels
 
-pub client_else : (j k : ℕ) → j ≢ k → client_of j ≢ client_of k
-client_else j k other same = other (let at : 2 * j + 1 ≡ 2 * k + 1 = ap (λ c. c.0) same in omega arith)
+pub client_else : (j k : ℕ) → j ≢ k → client_at j ≢ client_at k
+client_else j k other same =
+    other (let at : 2 * j + 1 ≡ 2 * k + 1 = ap (λ (c : ChanId). c.number.0) same in omega arith)
 
-pub target_else : (j k : ℕ) → j ≢ k → target_of j ≢ target_of k
-target_else j k other same = other (let at : 2 * j + 2 ≡ 2 * k + 2 = ap (λ c. c.0) same in omega arith)
+pub target_else : (j k : ℕ) → j ≢ k → target_at j ≢ target_at k
+target_else j k other same =
+    other (let at : 2 * j + 1 + 1 ≡ 2 * k + 1 + 1 = ap (λ (c : ChanId). c.number.0) same in omega arith)
 
-pub client_target : (j k : ℕ) → client_of j ≢ target_of k
-client_target j k same = let at : 2 * j + 1 ≡ 2 * k + 2 = ap (λ c. c.0) same in omega arith
+pub client_target : (j k : ℕ) → client_at j ≢ target_at k
+client_target j k same =
+    let at : 2 * j + 1 ≡ 2 * k + 1 + 1 = ap (λ (c : ChanId). c.number.0) same in omega arith
 
-pub client_listener : (k : ℕ) → client_of k ≢ listener
-client_listener k same = let at : 2 * k + 1 ≡ 0 = ap (λ c. c.0) same in omega arith
+pub client_listener : (k : ℕ) → client_at k ≢ listener
+client_listener k same = let at : 2 * k + 1 ≡ 0 = ap (λ (c : ChanId). c.number.0) same in omega arith
 
-pub target_listener : (k : ℕ) → target_of k ≢ listener
-target_listener k same = let at : 2 * k + 2 ≡ 0 = ap (λ c. c.0) same in omega arith
+pub target_listener : (k : ℕ) → target_at k ≢ listener
+target_listener k same = let at : 2 * k + 1 + 1 ≡ 0 = ap (λ (c : ChanId). c.number.0) same in omega arith
+
+pub client_number : (k : ℕ) → listener.number ≢ (client_at k).number
+client_number k same = let at : 0 ≡ 2 * k + 1 = ap (λ (n : ChanNo). n.0) same in omega arith
+
+pub target_number : (k : ℕ) → listener.number ≢ (target_at k).number
+target_number k same = let at : 0 ≡ 2 * k + 1 + 1 = ap (λ (n : ChanNo). n.0) same in omega arith
+
+-- a channel with a later serial is none of a run's
+later_client : (x : ChanId) (k : ℕ) → 1 ≤ x.serial → x ≢ client_at k
+later_client x k later same = let at : x.serial ≡ 0 = ap (λ (c : ChanId). c.serial) same in omega arith
+
+later_target : (x : ChanId) (k : ℕ) → 1 ≤ x.serial → x ≢ target_at k
+later_target x k later same = let at : x.serial ≡ 0 = ap (λ (c : ChanId). c.serial) same in omega arith
+
+pub later_listener : (x : ChanId) → 1 ≤ x.serial → x ≢ listener
+later_listener x later same = let at : x.serial ≡ 0 = ap (λ (c : ChanId). c.serial) same in omega arith
+
+-- a first channel of a number, of which no later one was used, can be asked
+pub free_first : (link : ChanId → Link) (place : ChanId → Place) (n : ChanNo) → place (first_channel n) ≡ never_asked
+    → ((x : ChanId) → 1 ≤ x.serial → IsUntouched (link x) (place x)) → IsFree place (first_channel n)
+free_first link place n unasked later = record {
+  later = λ s _. all s;
+  vacant = λ s. subst (λ (p : Place). IsVacant p.standing) (sym (all s)) tt;
+}
+  where
+    all : (s : ℕ) → place (channel n s) ≡ never_asked
+    all zero = unasked
+    all (suc s) = (later (channel n (suc s)) (omega arith)).unasked
 
 -- only these two channels may have changed
-abbrev pub IsSameElse : {A : Type 0} → ChanNo → ChanNo → (ChanNo → A) → (ChanNo → A) → Type 0
-IsSameElse a b before now = (c : ChanNo) → c ≢ a → c ≢ b → now c ≡ before c
+abbrev pub IsSameElse : {A : Type 0} → ChanId → ChanId → (ChanId → A) → (ChanId → A) → Type 0
+IsSameElse a b before now = (c : ChanId) → c ≢ a → c ≢ b → now c ≡ before c
 
 -- the two channels of another connection
-module _ {A : Type 0} (before now : ChanNo → A) (k j : ℕ) (same : IsSameElse (client_of k) (target_of k) before now)
+module _ {A : Type 0} (before now : ChanId → A) (k j : ℕ) (same : IsSameElse (client_at k) (target_at k) before now)
     (other : j ≢ k) where
-  pub same_client : now (client_of j) ≡ before (client_of j)
-  same_client = same (client_of j) (client_else j k other) (client_target j k)
+  pub same_client : now (client_at j) ≡ before (client_at j)
+  same_client = same (client_at j) (client_else j k other) (client_target j k)
 
-  pub same_target : now (target_of j) ≡ before (target_of j)
-  same_target = same (target_of j) (λ at. client_target k j (sym at)) (target_else j k other)
+  pub same_target : now (target_at j) ≡ before (target_at j)
+  same_target = same (target_at j) (λ at. client_target k j (sym at)) (target_else j k other)
 
 -- ---- a change of one slot
 
@@ -93,8 +127,6 @@ others_then b spare first second = record {
   room = second.room ∙ first.room;
   conns = second.conns ∙ first.conns;
   target = second.target ∙ first.target;
-  accepted = second.accepted ∙ first.accepted;
-  listening = second.listening ∙ first.listening;
 }
 
 -- what holds where a slot changed, and everywhere else, holds of every connection
@@ -111,43 +143,43 @@ is_slot_as to s {c0} {c1} {t0} {t1} {p0} {p1} {q0} {q1} clients targets at_clien
     subst₂ (λ c t. IsSlotOf to s c t p1 q1) (sym clients) (sym targets)
     (subst₂ (λ p q. IsSlotOf to s c0 t0 p q) (sym at_clients) (sym at_targets) is)
 
-slots_change : (to : Addr) (link0 link1 : ChanNo → Link) (place0 place1 : ChanNo → Place) (before now : List Slot)
+slots_change : (to : Addr) (link0 link1 : ChanId → Link) (place0 place1 : ChanId → Place) (before now : List Slot)
     (k : ℕ) (slot : Slot) → AreSlots to link0 place0 before → Changes before now k slot
-    → IsSameElse (client_of k) (target_of k) link0 link1 → IsSameElse (client_of k) (target_of k) place0 place1
-    → IsSlotOf to (Some slot) (link1 (client_of k)) (link1 (target_of k)) (place1 (client_of k))
-    (place1 (target_of k)) → AreSlots to link1 place1 now
+    → IsSameElse (client_at k) (target_at k) link0 link1 → IsSameElse (client_at k) (target_at k) place0 place1
+    → IsSlotOf to (Some slot) (link1 (client_at k)) (link1 (target_at k)) (place1 (client_at k))
+    (place1 (target_at k)) → AreSlots to link1 place1 now
 slots_change to link0 link1 place0 place1 before now k slot slots changes links places is =
     by_change
-    (λ j s. IsSlotOf to s (link1 (client_of j)) (link1 (target_of j)) (place1 (client_of j)) (place1 (target_of j)))
+    (λ j s. IsSlotOf to s (link1 (client_at j)) (link1 (target_at j)) (place1 (client_at j)) (place1 (target_at j)))
     changes is
     (λ j other. is_slot_as to (slice_get before j)
     (same_client link0 link1 k j links other) (same_target link0 link1 k j links other)
     (same_client place0 place1 k j places other) (same_target place0 place1 k j places other) (slots j))
 
 -- the work left the links of connections alone
-slots_still : (to : Addr) (link0 link1 : ChanNo → Link) (place0 place1 : ChanNo → Place) (slots : List Slot)
-    → ((c : ChanNo) → link1 c ≡ link0 c) → IsSameBut listener place0 place1
+slots_still : (to : Addr) (link0 link1 : ChanId → Link) (place0 place1 : ChanId → Place) (slots : List Slot)
+    → ((c : ChanId) → link1 c ≡ link0 c) → IsSameBut listener place0 place1
     → AreSlots to link0 place0 slots → AreSlots to link1 place1 slots
 slots_still to link0 link1 place0 place1 slots links places are j =
-    is_slot_as to (slice_get slots j) (links (client_of j)) (links (target_of j))
-    (places (client_of j) (client_listener j)) (places (target_of j) (target_listener j)) (are j)
+    is_slot_as to (slice_get slots j) (links (client_at j)) (links (target_at j))
+    (places (client_at j) (client_listener j)) (places (target_at j) (target_listener j)) (are j)
 
 -- ---- faults
 
-pub faulted_on : (before mid now : ChanNo → ℕ) (k : ℕ) → ((c : ChanNo) → before c ≤ mid c)
-    → ((c : ChanNo) → mid c ≤ now c) → HasFaulted before mid k → HasFaulted before now k
+pub faulted_on : (before mid now : ChanId → ℕ) (k : ℕ) → ((c : ChanId) → before c ≤ mid c)
+    → ((c : ChanId) → mid c ≤ now c) → HasFaulted before mid (client_at k) → HasFaulted before now (client_at k)
 faulted_on before mid now k first second (inl rose) =
-    inl (rose_on _ _ _ (first (client_of k)) rose (second (client_of k)))
+    inl (rose_on _ _ _ (first (client_at k)) rose (second (client_at k)))
 faulted_on before mid now k first second (inr rose) =
-    inr (rose_on _ _ _ (first (target_of k)) rose (second (target_of k)))
+    inr (rose_on _ _ _ (first (target_at k)) rose (second (target_at k)))
 
-pub faulted_from : (before mid now : ChanNo → ℕ) (k : ℕ) → ((c : ChanNo) → before c ≤ mid c) → HasFaulted mid now k
-    → HasFaulted before now k
-faulted_from before mid now k first (inl rose) = inl (rose_from _ _ _ (first (client_of k)) rose)
-faulted_from before mid now k first (inr rose) = inr (rose_from _ _ _ (first (target_of k)) rose)
+pub faulted_from : (before mid now : ChanId → ℕ) (k : ℕ) → ((c : ChanId) → before c ≤ mid c) → HasFaulted mid now (client_at k)
+    → HasFaulted before now (client_at k)
+faulted_from before mid now k first (inl rose) = inl (rose_from _ _ _ (first (client_at k)) rose)
+faulted_from before mid now k first (inr rose) = inr (rose_from _ _ _ (first (target_at k)) rose)
 
-pub unfaulted_then : (before mid now : ChanNo → ℕ) (k : ℕ) → IsUnfaulted before mid k → IsUnfaulted mid now k
-    → IsUnfaulted before now k
+pub unfaulted_then : (before mid now : ChanId → ℕ) (k : ℕ) → IsUnfaulted before mid (client_at k) → IsUnfaulted mid now (client_at k)
+    → IsUnfaulted before now (client_at k)
 unfaulted_then before mid now k first second =
     record { client = second.client ∙ first.client; target = second.target ∙ first.target }
 
@@ -172,69 +204,52 @@ recount test before now k m n slot a b few was changes count more same =
     omega (arith, more, count, one, here) ∙ ap (count_below (λ j. test (slice_get now j))) (sym same)
 
 -- the counts are small
-pub few_counted : {link : ChanNo → Link} {place : ChanNo → Place} {c : Connections} → AreServed link place c
-    → (c.accepted ≤ 16000) × (c.ended ≤ 16000) × (c.faulted ≤ 16000)
+pub few_counted : {link : ChanId → Link} {place : ChanId → Place} {c : Connections} → AreServed link place c
+    → (c.ended ≤ 16000) × (c.faulted ≤ 16000)
 few_counted {c = c} served = (
-  omega (arith, served.accepted, served.bound, count_few (λ k. was_accepted (slice_get c.slots.items k)) c.conns),
   omega (arith, served.ended, served.bound, count_few (λ k. has_ended (slice_get c.slots.items k)) c.conns),
   omega (arith, served.faulted, served.bound, count_few (λ k. has_faulted (slice_get c.slots.items k)) c.conns),
 )
 
-module _ (k : ℕ) (slot : Slot) (link0 link1 : ChanNo → Link) (place0 place1 : ChanNo → Place)
+pub untouched_as : {l0 l1 : Link} {p0 p1 : Place} → l1 ≡ l0 → p1 ≡ p0 → IsUntouched l0 p0 → IsUntouched l1 p1
+untouched_as links places is =
+    record { no_bytes = subst IsUnused (sym links) is.no_bytes; unasked = places ∙ is.unasked }
+
+module _ (k : ℕ) (slot : Slot) (link0 link1 : ChanId → Link) (place0 place1 : ChanId → Place)
     (c0 c1 : Connections) where
   pub served_change : AreServed link0 place0 c0 → k < c0.conns → c1.conns ≡ c0.conns → c1.target ≡ c0.target
       → c0.conns ≤ vec_capacity c1.slots → length c1.slots.items ≤ c0.conns
-      → Changes c0.slots.items c1.slots.items k slot → IsSameElse (client_of k) (target_of k) link0 link1
-      → IsSameElse (client_of k) (target_of k) place0 place1
-      → IsSlotOf c0.target (Some slot) (link1 (client_of k)) (link1 (target_of k)) (place1 (client_of k))
-      (place1 (target_of k))
+      → Changes c0.slots.items c1.slots.items k slot → IsSameElse (client_at k) (target_at k) link0 link1
+      → IsSameElse (client_at k) (target_at k) place0 place1
+      → IsSlotOf c0.target (Some slot) (link1 (client_at k)) (link1 (target_at k)) (place1 (client_at k))
+      (place1 (target_at k))
       → has_ended (slice_get c0.slots.items k) ≡ false → has_faulted (slice_get c0.slots.items k) ≡ false
       → c1.ended ≡ c0.ended + one_if (has_ended (Some slot))
-      → c1.faulted ≡ c0.faulted + one_if (has_faulted (Some slot))
-      → c1.accepted ≡ count_below (λ j. was_accepted (slice_get c1.slots.items j)) c1.conns
-      → (IsTrue c1.is_listening → c1.accepted ≡ length c1.slots.items) → AreServed link1 place1 c1
-  served_change served few conns target room short changes links places is not_ended not_faulted ended faulted accepted
-      whole =
+      → c1.faulted ≡ c0.faulted + one_if (has_faulted (Some slot)) → AreServed link1 place1 c1
+  served_change served few conns target room short changes links places is not_ended not_faulted ended faulted =
       record {
         slots = subst (λ to. AreSlots to link1 place1 c1.slots.items) (sym target)
             (slots_change c0.target link0 link1 place0 place1 c0.slots.items c1.slots.items k slot served.slots changes
             links places is);
+        later = λ x late. untouched_as (links x (later_client x k late) (later_target x k late))
+            (places x (later_client x k late) (later_target x k late)) (served.later x late);
         few = omega (arith, short, conns);
         room = omega (arith, room, conns);
         bound = omega (arith, served.bound, conns);
-        accepted = accepted;
-        whole = whole;
         ended = recount has_ended c0.slots.items c1.slots.items k c0.conns c1.conns slot c0.ended c1.ended few not_ended
             changes served.ended ended conns;
         faulted = recount has_faulted c0.slots.items c1.slots.items k c0.conns c1.conns slot c0.faulted c1.faulted few
             not_faulted changes served.faulted faulted conns;
       }
 
--- how many were accepted, where one connection changed that was accepted before
-pub accepted_set : (k : ℕ) (slot : Slot) (relay : Relay) (c0 c1 : Connections)
-    → c0.accepted ≡ count_below (λ j. was_accepted (slice_get c0.slots.items j)) c0.conns
-    → slice_get c0.slots.items k ≡ Some (Live relay) → Changes c0.slots.items c1.slots.items k slot
-    → IsTrue (was_accepted (Some slot)) → c1.accepted ≡ c0.accepted → c1.conns ≡ c0.conns
-    → c1.accepted ≡ count_below (λ j. was_accepted (slice_get c1.slots.items j)) c1.conns
-accepted_set k slot relay c0 c1 count was changes stands same conns =
-    same
-    ∙ (count
-    ∙ (sym (count-same (λ j. was_accepted (slice_get c0.slots.items j)) (λ j. was_accepted (slice_get c1.slots.items j))
-    c0.conns (λ j _. at j))
-    ∙ ap (count_below (λ j. was_accepted (slice_get c1.slots.items j))) (sym conns)))
-  where
-    at : (j : ℕ) → was_accepted (slice_get c1.slots.items j) ≡ was_accepted (slice_get c0.slots.items j)
-    at = by_change (λ j s. was_accepted s ≡ was_accepted (slice_get c0.slots.items j)) changes
-        (stands ∙ sym (ap was_accepted was)) (λ j other. refl)
-
-module _ (k : ℕ) (slot : Slot) (faults0 faults1 : ChanNo → ℕ) (c0 c1 : Connections) where
+module _ (k : ℕ) (slot : Slot) (faults0 faults1 : ChanId → ℕ) (c0 c1 : Connections) where
   faulty_change : Changes c0.slots.items c1.slots.items k slot
-      → (IsTrue (has_faulted (Some slot)) → HasFaulted faults0 faults1 k)
+      → (IsTrue (has_faulted (Some slot)) → HasFaulted faults0 faults1 (client_at k))
       → (j : ℕ) → IsTrue (has_faulted (slice_get c1.slots.items j)) → IsTrue (has_faulted (slice_get c0.slots.items j))
-      ⊎ HasFaulted faults0 faults1 j
+      ⊎ HasFaulted faults0 faults1 (client_at j)
   faulty_change changes faulty =
       by_change
-      (λ j s. IsTrue (has_faulted s) → IsTrue (has_faulted (slice_get c0.slots.items j)) ⊎ HasFaulted faults0 faults1 j)
+      (λ j s. IsTrue (has_faulted s) → IsTrue (has_faulted (slice_get c0.slots.items j)) ⊎ HasFaulted faults0 faults1 (client_at j))
       changes (λ is. inr (faulty is)) (λ j other is. inl is)
 
   -- the connection hadn't ended by a fault
@@ -245,78 +260,94 @@ module _ (k : ℕ) (slot : Slot) (faults0 faults1 : ChanNo → ℕ) (c0 c1 : Con
       (λ is. absurd (both_ways (has_faulted (slice_get c0.slots.items k)) was is)) (λ j other is. is)
 
   unfaulted_change : Changes c0.slots.items c1.slots.items k slot
-      → (IsFalse (has_faulted (Some slot)) → IsUnfaulted faults0 faults1 k)
-      → IsSameElse (client_of k) (target_of k) faults0 faults1 → (j : ℕ)
-      → IsFalse (has_faulted (slice_get c1.slots.items j)) → IsUnfaulted faults0 faults1 j
+      → (IsFalse (has_faulted (Some slot)) → IsUnfaulted faults0 faults1 (client_at k))
+      → IsSameElse (client_at k) (target_at k) faults0 faults1 → (j : ℕ)
+      → IsFalse (has_faulted (slice_get c1.slots.items j)) → IsUnfaulted faults0 faults1 (client_at j)
   unfaulted_change changes unfaulted same =
-      by_change (λ j s. IsFalse (has_faulted s) → IsUnfaulted faults0 faults1 j) changes unfaulted
+      by_change (λ j s. IsFalse (has_faulted s) → IsUnfaulted faults0 faults1 (client_at j)) changes unfaulted
       (λ j other _. record {
         client = same_client faults0 faults1 k j same other;
         target = same_target faults0 faults1 k j same other;
       })
 
 -- no connection has carried more, and they are the same
-pub served_still : (link0 link1 : ChanNo → Link) (place0 place1 : ChanNo → Place) (c : Connections)
-    → AreServed link0 place0 c → ((k : ChanNo) → link1 k ≡ link0 k)
+pub served_still : (link0 link1 : ChanId → Link) (place0 place1 : ChanId → Place) (c : Connections)
+    → AreServed link0 place0 c → ((k : ChanId) → link1 k ≡ link0 k)
     → IsSameBut listener place0 place1 → AreServed link1 place1 c
 served_still link0 link1 place0 place1 c served links places = record {
   slots = slots_still c.target link0 link1 place0 place1 c.slots.items links places served.slots;
+  later = λ x late. untouched_as (links x) (places x (later_listener x late)) (served.later x late);
   few = served.few;
   room = served.room;
   bound = served.bound;
-  accepted = served.accepted;
-  whole = served.whole;
   ended = served.ended;
   faulted = served.faulted;
 }
 
 -- the next connection hasn't been begun
-pub next_unbegun : (link : ChanNo → Link) (place : ChanNo → Place) (c : Connections) (client target : ChanNo)
+pub next_unbegun : (link : ChanId → Link) (place : ChanId → Place) (c : Connections) (client target : ChanId)
     → AreServed link place c
-    → client ≡ client_of (length c.slots.items) → target ≡ target_of (length c.slots.items)
+    → client ≡ client_at (length c.slots.items) → target ≡ target_at (length c.slots.items)
     → IsUnbegun (link client) (link target) (place client) (place target)
 next_unbegun link place c client target served is_client is_target =
     let k = length c.slots.items in
     let none : slice_get c.slots.items k ≡ None = slice_get_past c.slots.items k (omega arith) in
-    let next : IsUnbegun (link (client_of k)) (link (target_of k)) (place (client_of k)) (place (target_of k)) =
-    subst (λ s. IsSlot s (link (client_of k)) (link (target_of k)) (place (client_of k)) (place (target_of k))) none
+    let next : IsUnbegun (link (client_at k)) (link (target_at k)) (place (client_at k)) (place (target_at k)) =
+    subst (λ s. IsSlot s (link (client_at k)) (link (target_at k)) (place (client_at k)) (place (target_at k))) none
     (served.slots k).is_slot in
     subst₂ (λ a b. IsUnbegun (link a) (link b) (place a) (place b)) (sym is_client) (sym is_target) next
 
-module _ {W N : Type 0} (n : Ghosts W N) where
+pub next_free : (link : ChanId → Link) (place : ChanId → Place) (c : Connections) (client : ChanId)
+    → AreServed link place c → client ≡ client_at (length c.slots.items) → IsFree place client
+next_free link place c client served is =
+    let k = length c.slots.items in
+    let next = next_unbegun link place c (client_at k) (target_at k) served refl refl in
+    subst (IsFree place) (sym is) (free_first link place (client_at k).number next.client_unasked served.later)
+
+-- a target whose link wasn't asked for can be asked
+pub target_free : (link : ChanId → Link) (place : ChanId → Place) (c : Connections) (k : ℕ) (relay : Relay)
+    (target : ChanId) → AreServed link place c → target ≡ target_at k → slice_get c.slots.items k ≡ Some (Live relay)
+    → relay.stage ≡ stage.Accepted → IsFree place target
+target_free link place c k relay target served is was stage_is =
+    let slot : IsSlot (Some (Live relay)) (link (client_at k)) (link (target_at k)) (place (client_at k))
+    (place (target_at k)) =
+    subst (λ s. IsSlot s (link (client_at k)) (link (target_at k)) (place (client_at k)) (place (target_at k))) was
+    (served.slots k).is_slot in
+    let unasked : IsUnasked (link (target_at k)) (place (target_at k)) (carried relay.back relay.there) =
+    subst (λ s. IsTarget s (link (target_at k)) (place (target_at k)) (carried relay.back relay.there)) stage_is
+    slot.relaying.by_target in
+    subst (IsFree place) (sym is) (free_first link place (target_at k).number unasked.stands served.later)
+
+module _ {N : Type 0} (n : Members N) where
   -- what stands of a connection that hasn't ended
-  pub slot_is : (k : ℕ) (relay : Relay) (client target : ChanNo) (x : N) (c : Connections) → client ≡ client_of k
-      → target ≡ target_of k → AreServed (n.link x) (n.place x) c → slice_get c.slots.items k ≡ Some (Live relay)
+  pub slot_is : (k : ℕ) (relay : Relay) (client target : ChanId) (x : N) (c : Connections) → client ≡ client_at k
+      → target ≡ target_at k → AreServed (n.link x) (n.place x) c → slice_get c.slots.items k ≡ Some (Live relay)
       → IsSlotOf c.target (Some (Live relay)) (n.link x client) (n.link x target) (n.place x client) (n.place x target)
   slot_is k relay client target x c is_client is_target served was =
       subst₂ (λ a b. IsSlotOf c.target (Some (Live relay)) (n.link x a) (n.link x b) (n.place x a) (n.place x b))
       (sym is_client) (sym is_target)
-      (subst (λ s. IsSlotOf c.target s (n.link x (client_of k)) (n.link x (target_of k)) (n.place x (client_of k))
-      (n.place x (target_of k))) was (served.slots k))
+      (subst (λ s. IsSlotOf c.target s (n.link x (client_at k)) (n.link x (target_at k)) (n.place x (client_at k))
+      (n.place x (target_at k))) was (served.slots k))
 
   -- the accepted links stay those of the first connections
   abbrev KeepsOrder : N → N → Connections → Connections → Type 0
-  KeepsOrder x y c0 c1 = (start : List ChanNo) → n.accepted x ≡ start ++ clients_below c0.accepted
-      → n.accepted y ≡ start ++ clients_below c1.accepted
+  KeepsOrder x y c0 c1 = (start : List ChanId) → n.accepted x ≡ start ++ clients_below (length c0.slots.items)
+      → n.accepted y ≡ start ++ clients_below (length c1.slots.items)
 
-  order_still : (x y : N) (c0 c1 : Connections) → n.accepted y ≡ n.accepted x → c1.accepted ≡ c0.accepted
-      → KeepsOrder x y c0 c1
-  order_still x y c0 c1 none accepted start is =
-      none ∙ (is ∙ ap (λ m. start ++ clients_below m) (sym accepted))
+  order_still : (x y : N) (c0 c1 : Connections) → n.accepted y ≡ n.accepted x
+      → length c1.slots.items ≡ length c0.slots.items → KeepsOrder x y c0 c1
+  order_still x y c0 c1 none count start is =
+      none ∙ (is ∙ ap (λ m. start ++ clients_below m) (sym count))
 
-  order_more : (x y : N) (c0 c1 : Connections) → n.accepted y ≡ n.accepted x ++ client_of c0.accepted ∷ []
-      → c1.accepted ≡ c0.accepted + 1 → KeepsOrder x y c0 c1
-  order_more x y c0 c1 more accepted start is =
+  order_more : (x y : N) (c0 c1 : Connections)
+      → n.accepted y ≡ n.accepted x ++ client_at (length c0.slots.items) ∷ []
+      → length c1.slots.items ≡ length c0.slots.items + 1 → KeepsOrder x y c0 c1
+  order_more x y c0 c1 more count start is =
+      let k = length c0.slots.items in
       more
-      ∙ (ap (λ xs. xs ++ client_of c0.accepted ∷ []) is
-      ∙ (append_assoc start (clients_below c0.accepted) (client_of c0.accepted ∷ [])
-      ∙ ap (λ m. start ++ clients_below m) (sym (accepted ∙ add-one c0.accepted))))
-
-  whole_still : (c0 c1 : Connections) → (IsTrue c0.is_listening → c0.accepted ≡ length c0.slots.items)
-      → c1.accepted ≡ c0.accepted → c1.is_listening ≡ c0.is_listening
-      → length c1.slots.items ≡ length c0.slots.items → IsTrue c1.is_listening → c1.accepted ≡ length c1.slots.items
-  whole_still c0 c1 whole accepted listening short is =
-      accepted ∙ (whole (sym listening ∙ is) ∙ sym short)
+      ∙ (ap (λ xs. xs ++ client_at k ∷ []) is
+      ∙ (append_assoc start (clients_below k) (client_at k ∷ [])
+      ∙ ap (λ m. start ++ clients_below m) (sym (count ∙ add-one k))))
 
   pub serving_none : (x : N) (c : Connections) → AreServed (n.link x) (n.place x) c → Serving n x x c c
   serving_none x c served = record {
@@ -358,8 +389,8 @@ module _ {W N : Type 0} (n : Ghosts W N) where
 
   -- where no link has carried more, and only the listener has failed or stands in another way
   pub serving_alone : (x y : N) (c : Connections) → AreServed (n.link x) (n.place x) c
-      → ((k : ChanNo) → n.link y k ≡ n.link x k) → IsSameBut listener (n.place x) (n.place y)
-      → ((k : ChanNo) → k ≢ listener → n.faults y k ≡ n.faults x k) → ((k : ChanNo) → n.faults x k ≤ n.faults y k)
+      → ((k : ChanId) → n.link y k ≡ n.link x k) → IsSameBut listener (n.place x) (n.place y)
+      → ((k : ChanId) → k ≢ listener → n.faults y k ≡ n.faults x k) → ((k : ChanId) → n.faults x k ≤ n.faults y k)
       → n.poll_faults x ≤ n.poll_faults y → n.accepted y ≡ n.accepted x → Serving n x y c c
   serving_alone x y c served links places faults later polls accepted = record {
     served = served_still (n.link x) (n.link y) (n.place x) (n.place y) c served links places;
@@ -368,8 +399,8 @@ module _ {W N : Type 0} (n : Ghosts W N) where
     faulty = λ k is. inl is;
     lasting = λ k is. is;
     unfaulted = λ k is. record {
-      client = faults (client_of k) (client_listener k);
-      target = faults (target_of k) (target_listener k);
+      client = faults (client_at k) (client_listener k);
+      target = faults (target_at k) (target_listener k);
     };
     order = λ start is. accepted ∙ is;
     no_bytes = links listener;
@@ -378,8 +409,8 @@ module _ {W N : Type 0} (n : Ghosts W N) where
   }
 
   -- where a connection was begun, or connecting its target
-  pub serving_begun : (k : ℕ) (slot : Slot) (client target : ChanNo) (x y : N) (c0 c1 : Connections)
-      → client ≡ client_of k → target ≡ target_of k → AreServed (n.link x) (n.place x) c0 → k < c0.conns
+  pub serving_begun : (k : ℕ) (slot : Slot) (client target : ChanId) (x y : N) (c0 c1 : Connections)
+      → client ≡ client_at k → target ≡ target_at k → AreServed (n.link x) (n.place x) c0 → k < c0.conns
       → has_ended (slice_get c0.slots.items k) ≡ false → has_faulted (slice_get c0.slots.items k) ≡ false
       → Begins n client target x y → Changes c0.slots.items c1.slots.items k slot → c0.conns ≤ vec_capacity c1.slots
       → length c1.slots.items ≤ c0.conns → c1.conns ≡ c0.conns → c1.target ≡ c0.target
@@ -388,25 +419,24 @@ module _ {W N : Type 0} (n : Ghosts W N) where
       → c1.faulted ≡ c0.faulted + one_if (has_faulted (Some slot))
       → (IsTrue (has_faulted (Some slot)) → Rose (n.faults x target) (n.faults y target))
       → (IsFalse (has_faulted (Some slot)) → n.faults y target ≡ n.faults x target)
-      → c1.accepted ≡ count_below (λ j. was_accepted (slice_get c1.slots.items j)) c1.conns
-      → (IsTrue c1.is_listening → c1.accepted ≡ length c1.slots.items) → KeepsOrder x y c0 c1 → Serving n x y c0 c1
+      → KeepsOrder x y c0 c1 → Serving n x y c0 c1
   serving_begun k slot client target x y c0 c1 is_client is_target served few not_ended not_faulted begins changes room
-      short conns to is ended faulted faulty calm accepted whole order =
-      let begun : Begins n (client_of k) (target_of k) x y = subst₂ (λ a b. Begins n a b x y) is_client is_target begins
+      short conns to is ended faulted faulty calm order =
+      let begun : Begins n (client_at k) (target_at k) x y = subst₂ (λ a b. Begins n a b x y) is_client is_target begins
       in
-      let here : IsSlotOf c0.target (Some slot) (n.link y (client_of k)) (n.link y (target_of k))
-      (n.place y (client_of k)) (n.place y (target_of k)) =
+      let here : IsSlotOf c0.target (Some slot) (n.link y (client_at k)) (n.link y (target_at k))
+      (n.place y (client_at k)) (n.place y (target_at k)) =
       subst₂ (λ a b. IsSlotOf c0.target (Some slot) (n.link y a) (n.link y b) (n.place y a) (n.place y b)) is_client
       is_target is in
-      let has : IsTrue (has_faulted (Some slot)) → HasFaulted (n.faults x) (n.faults y) k =
+      let has : IsTrue (has_faulted (Some slot)) → HasFaulted (n.faults x) (n.faults y) (client_at k) =
       λ f. inr (subst (λ b. Rose (n.faults x b) (n.faults y b)) is_target (faulty f)) in
-      let hasnt : IsFalse (has_faulted (Some slot)) → IsUnfaulted (n.faults x) (n.faults y) k = λ f. record {
-        client = begun.faults (client_of k) (client_target k k);
+      let hasnt : IsFalse (has_faulted (Some slot)) → IsUnfaulted (n.faults x) (n.faults y) (client_at k) = λ f. record {
+        client = begun.faults (client_at k) (client_target k k);
         target = subst (λ b. n.faults y b ≡ n.faults x b) is_target (calm f);
       } in
       record {
         served = served_change k slot (n.link x) (n.link y) (n.place x) (n.place y) c0 c1 served few conns to room short
-            changes (λ c _ _. begun.links c) begun.places here not_ended not_faulted ended faulted accepted whole;
+            changes (λ c _ _. begun.links c) begun.places here not_ended not_faulted ended faulted;
         conns = conns;
         target = to;
         faulty = faulty_change k slot (n.faults x) (n.faults y) c0 c1 changes has;
@@ -420,8 +450,8 @@ module _ {W N : Type 0} (n : Ghosts W N) where
       }
 
   -- where connecting the target of a connection was begun
-  pub serving_connected : (k : ℕ) (slot : Slot) (relay : Relay) (client target : ChanNo) (x y : N)
-      (c0 c1 : Connections) → client ≡ client_of k → target ≡ target_of k → AreServed (n.link x) (n.place x) c0
+  pub serving_connected : (k : ℕ) (slot : Slot) (relay : Relay) (client target : ChanId) (x y : N)
+      (c0 c1 : Connections) → client ≡ client_at k → target ≡ target_at k → AreServed (n.link x) (n.place x) c0
       → slice_get c0.slots.items k ≡ Some (Live relay) → Begins n client target x y
       → slice_get c1.slots.items k ≡ Some slot → IsSameButOne k c0 c1
       → IsSlotOf c0.target (Some slot) (n.link y client) (n.link y target) (n.place y client) (n.place y target)
@@ -429,21 +459,19 @@ module _ {W N : Type 0} (n : Ghosts W N) where
       → c1.faulted ≡ c0.faulted + one_if (has_faulted (Some slot))
       → (IsTrue (has_faulted (Some slot)) → Rose (n.faults x target) (n.faults y target))
       → (IsFalse (has_faulted (Some slot)) → n.faults y target ≡ n.faults x target)
-      → IsTrue (was_accepted (Some slot)) → n.accepted y ≡ n.accepted x → Serving n x y c0 c1
+      → n.accepted y ≡ n.accepted x → Serving n x y c0 c1
   serving_connected k slot relay client target x y c0 c1 is_client is_target served was begins here rest is ended
-      faulted faulty calm stands none =
+      faulted faulty calm none =
       let changes : Changes c0.slots.items c1.slots.items k slot = record { here = here; else_ = rest.others } in
       serving_begun k slot client target x y c0 c1 is_client is_target served
       (omega (arith, served.few, slice_get_within c0.slots.items k (Live relay) was)) (ap has_ended was)
       (ap has_faulted was) begins changes (omega (arith, served.room, rest.room))
       (omega (arith, served.few, rest.length)) rest.conns rest.target is ended faulted faulty calm
-      (accepted_set k slot relay c0 c1 served.accepted was changes stands rest.accepted rest.conns)
-      (whole_still c0 c1 served.whole rest.accepted rest.listening rest.length)
-      (order_still x y c0 c1 none rest.accepted)
+      (order_still x y c0 c1 none rest.length)
 
   -- where work was done on the links of one connection
-  pub serving_told : (k : ℕ) (slot : Slot) (relay : Relay) (client target : ChanNo) (x y : N) (c0 c1 : Connections)
-      → client ≡ client_of k → target ≡ target_of k → AreServed (n.link x) (n.place x) c0
+  pub serving_told : (k : ℕ) (slot : Slot) (relay : Relay) (client target : ChanId) (x y : N) (c0 c1 : Connections)
+      → client ≡ client_at k → target ≡ target_at k → AreServed (n.link x) (n.place x) c0
       → slice_get c0.slots.items k ≡ Some (Live relay) → Works n client target x y
       → slice_get c1.slots.items k ≡ Some slot → IsSameButOne k c0 c1
       → IsSlot (Some slot) (n.link y client) (n.link y target) (n.place y client) (n.place y target)
@@ -452,31 +480,29 @@ module _ {W N : Type 0} (n : Ghosts W N) where
       → c1.faulted ≡ c0.faulted + one_if (has_faulted (Some slot))
       → (IsTrue (has_faulted (Some slot)) → OneRose (n.faults x) (n.faults y) client target)
       → (IsFalse (has_faulted (Some slot)) → BothSame (n.faults x) (n.faults y) client target)
-      → IsTrue (was_accepted (Some slot)) → Serving n x y c0 c1
+      → Serving n x y c0 c1
   serving_told k slot relay client target x y c0 c1 is_client is_target served was works here rest slots roles ended
-      faulted faulty calm stands =
+      faulted faulty calm =
       let changes : Changes c0.slots.items c1.slots.items k slot = record { here = here; else_ = rest.others } in
-      let work : Works n (client_of k) (target_of k) x y = subst₂ (λ a b. Works n a b x y) is_client is_target works in
-      let is : IsSlot (Some slot) (n.link y (client_of k)) (n.link y (target_of k)) (n.place y (client_of k))
-      (n.place y (target_of k)) =
+      let work : Works n (client_at k) (target_at k) x y = subst₂ (λ a b. Works n a b x y) is_client is_target works in
+      let is : IsSlot (Some slot) (n.link y (client_at k)) (n.link y (target_at k)) (n.place y (client_at k))
+      (n.place y (target_at k)) =
       subst₂ (λ a b. IsSlot (Some slot) (n.link y a) (n.link y b) (n.place y a) (n.place y b)) is_client is_target slots
       in
-      let before : HasRoles c0.target (Some (Live relay)) (n.place x (client_of k)).role
-      (n.place x (target_of k)).role =
-      subst (λ s. HasRoles c0.target s (n.place x (client_of k)).role (n.place x (target_of k)).role) was
+      let before : HasRoles c0.target (Some (Live relay)) (n.place x (client_at k)).role
+      (n.place x (target_at k)).role =
+      subst (λ s. HasRoles c0.target s (n.place x (client_at k)).role (n.place x (target_at k)).role) was
       (served.slots k).roles in
-      let now : HasRoles c0.target (Some (Live relay)) (n.place y (client_of k)).role (n.place y (target_of k)).role =
-      (work.roles (client_of k) ∙ before.0, work.roles (target_of k) ∙ before.1) in
+      let now : HasRoles c0.target (Some (Live relay)) (n.place y (client_at k)).role (n.place y (target_at k)).role =
+      (work.roles (client_at k) ∙ before.0, work.roles (target_at k) ∙ before.1) in
       record {
         served = served_change k slot (n.link x) (n.link y) (n.place x) (n.place y) c0 c1 served
             (omega (arith, served.few, slice_get_within c0.slots.items k (Live relay) was)) rest.conns rest.target
             (omega (arith, served.room, rest.room)) (omega (arith, served.few, rest.length)) changes work.links
             work.places (record {
               is_slot = is;
-              roles = roles c0.target (n.place y (client_of k)).role (n.place y (target_of k)).role now;
-            }) (ap has_ended was) (ap has_faulted was) ended faulted
-            (accepted_set k slot relay c0 c1 served.accepted was changes stands rest.accepted rest.conns)
-            (whole_still c0 c1 served.whole rest.accepted rest.listening rest.length);
+              roles = roles c0.target (n.place y (client_at k)).role (n.place y (target_at k)).role now;
+            }) (ap has_ended was) (ap has_faulted was) ended faulted;
         conns = rest.conns;
         target = rest.target;
         faulty = faulty_change k slot (n.faults x) (n.faults y) c0 c1 changes
@@ -486,15 +512,15 @@ module _ {W N : Type 0} (n : Ghosts W N) where
           client = subst (λ a. n.faults y a ≡ n.faults x a) is_client (calm f).first;
           target = subst (λ b. n.faults y b ≡ n.faults x b) is_target (calm f).second;
         }) work.faults;
-        order = order_still x y c0 c1 work.accepted rest.accepted;
+        order = order_still x y c0 c1 work.accepted rest.length;
         no_bytes = work.links listener (λ at. client_listener k (sym at)) (λ at. target_listener k (sym at));
         later = work.later;
         polls = omega (arith, work.polls);
       }
 
   -- where the next connection was begun
-  pub serving_new : (slot : Slot) (client target : ChanNo) (x y : N) (c0 c1 : Connections)
-      → client ≡ client_of (length c0.slots.items) → target ≡ target_of (length c0.slots.items)
+  pub serving_new : (slot : Slot) (client target : ChanId) (x y : N) (c0 c1 : Connections)
+      → client ≡ client_at (length c0.slots.items) → target ≡ target_at (length c0.slots.items)
       → AreServed (n.link x) (n.place x) c0
       → length c0.slots.items < c0.conns → Begins n client target x y → c1.slots.items ≡ c0.slots.items ++ slot ∷ []
       → vec_capacity c0.slots ≤ vec_capacity c1.slots → c1.conns ≡ c0.conns → c1.target ≡ c0.target
@@ -503,10 +529,9 @@ module _ {W N : Type 0} (n : Ghosts W N) where
       → c1.faulted ≡ c0.faulted + one_if (has_faulted (Some slot))
       → (IsTrue (has_faulted (Some slot)) → Rose (n.faults x target) (n.faults y target))
       → (IsFalse (has_faulted (Some slot)) → n.faults y target ≡ n.faults x target)
-      → IsTrue (was_accepted (Some slot)) → c1.accepted ≡ c0.accepted + 1 → IsTrue c0.is_listening
       → n.accepted y ≡ n.accepted x ++ client ∷ [] → Serving n x y c0 c1
   serving_new slot client target x y c0 c1 is_client is_target served few begins slots room conns to is ended faulted
-      faulty calm stands accepted listening more =
+      faulty calm more =
       let k = length c0.slots.items in
       let none : slice_get c0.slots.items k ≡ None = slice_get_past c0.slots.items k (omega arith) in
       let changes : Changes c0.slots.items c1.slots.items k slot = subst (λ xs. Changes c0.slots.items xs k slot)
@@ -515,74 +540,15 @@ module _ {W N : Type 0} (n : Ghosts W N) where
       (ap has_faulted none) begins changes (omega (arith, served.room, room))
       (omega (arith, few, ap length slots, length-append c0.slots.items (slot ∷ []))) conns to is ended faulted faulty
       calm
-      (recount was_accepted c0.slots.items c1.slots.items k c0.conns c1.conns slot c0.accepted c1.accepted few
-      (ap was_accepted none) changes served.accepted (accepted ∙ ap (λ b. c0.accepted + one_if b) (sym stands)) conns)
-      (λ _. omega (
-        arith,
-        accepted,
-        served.whole listening,
-        ap length slots,
-        length-append c0.slots.items (slot ∷ []),
-      ))
-      (order_more x y c0 c1 (more ∙ ap (λ (c : ChanNo). n.accepted x ++ c ∷ [])
-      (is_client ∙ ap client_of (sym (served.whole listening)))) accepted)
+      (order_more x y c0 c1 (more ∙ ap (λ (c : ChanId). n.accepted x ++ c ∷ []) is_client)
+      (ap length slots ∙ length-append c0.slots.items (slot ∷ [])))
 
-  -- where the next client couldn't be accepted
-  pub serving_unaccepted : (client : ChanNo) (x y : N) (c0 c1 : Connections)
-      → client ≡ client_of (length c0.slots.items) → AreServed (n.link x) (n.place x) c0
-      → length c0.slots.items < c0.conns → FailsToAccept n client x y
-      → n.place y client ≡ record { role = role.Accepted listener; standing = Nothing }
-      → c1.slots.items ≡ c0.slots.items ++ Unaccepted ∷ [] → vec_capacity c0.slots ≤ vec_capacity c1.slots
-      → c1.conns ≡ c0.conns → c1.target ≡ c0.target
-      → c1.ended ≡ c0.ended → c1.faulted ≡ c0.faulted → c1.accepted ≡ c0.accepted → IsFalse c1.is_listening
-      → Serving n x y c0 c1
-  serving_unaccepted client x y c0 c1 is_client served few fails unmade slots room conns target ended faulted accepted
-      stopped =
-      let k = length c0.slots.items in
-      let none : slice_get c0.slots.items k ≡ None = slice_get_past c0.slots.items k (omega arith) in
-      let changes : Changes c0.slots.items c1.slots.items k Unaccepted =
-      subst (λ xs. Changes c0.slots.items xs k Unaccepted)
-      (sym slots) (changes_push c0.slots.items Unaccepted) in
-      let next = next_unbegun (n.link x) (n.place x) c0 (client_of k) (target_of k) served refl refl in
-      let places : (c : ChanNo) → c ≢ client_of k
-      → n.place y c ≡ n.place x c = λ c other. fails.places c (λ at. other (at ∙ is_client)) in
-      let at_client : n.place y (client_of k) ≡ record { role = role.Accepted listener; standing = Nothing } =
-      subst (λ a. n.place y a ≡ record { role = role.Accepted listener; standing = Nothing }) is_client unmade in
-      let at_target : n.place y (target_of k) ≡ unused = places (target_of k) (λ at. client_target k k (sym at))
-      ∙ next.target_unasked in
-      let is : IsSlotOf c0.target (Some Unaccepted) (n.link y (client_of k)) (n.link y (target_of k))
-      (n.place y (client_of k)) (n.place y (target_of k)) = record {
-        is_slot = record {
-          client_unused = subst IsUnused (sym (fails.links (client_of k))) next.client_unused;
-          target_unused = subst IsUnused (sym (fails.links (target_of k))) next.target_unused;
-          client_closed = subst (λ (p : Place). IsVacant p.standing) (sym at_client) tt;
-          target_closed = subst (λ (p : Place). IsVacant p.standing) (sym at_target) tt;
-        };
-        roles = (ap (λ (p : Place). p.role) at_client, ap (λ (p : Place). p.role) at_target);
-      } in
-      record {
-        served = served_change k Unaccepted (n.link x) (n.link y) (n.place x) (n.place y) c0 c1 served few conns target
-            (omega (arith, served.room, room))
-            (omega (arith, few, ap length slots, length-append c0.slots.items (Unaccepted ∷ []))) changes
-            (λ c _ _. fails.links c) (λ c not_client _. places c not_client) is
-            (ap has_ended none) (ap has_faulted none) (omega (arith, ended)) (omega (arith, faulted))
-            (recount was_accepted c0.slots.items c1.slots.items k c0.conns c1.conns Unaccepted c0.accepted c1.accepted
-            few (ap was_accepted none) changes served.accepted (omega (arith, accepted)) conns)
-            (λ is_true. absurd (both_ways c1.is_listening stopped is_true));
-        conns = conns;
-        target = target;
-        faulty = faulty_change k Unaccepted (n.faults x) (n.faults y) c0 c1 changes
-            (λ never. absurd (both_ways false refl never));
-        lasting = lasting_change k Unaccepted (n.faults x) (n.faults y) c0 c1 changes (ap has_faulted none);
-        unfaulted = λ j _. record {
-          client = fails.faults (client_of j) (client_listener j);
-          target = fails.faults (target_of j) (target_listener j);
-        };
-        order = order_still x y c0 c1 fails.accepted accepted;
-        no_bytes = fails.links listener;
-        later = fails.later;
-        polls = omega (arith, fails.polls);
-      }
+  -- where no client could be accepted
+  pub serving_unaccepted : (x y : N) (c : Connections) → AreServed (n.link x) (n.place x) c → FailsToAccept n x y
+      → Serving n x y c c
+  serving_unaccepted x y c served fails =
+      serving_alone x y c served fails.links (λ k _. fails.places k) fails.faults fails.later
+      (omega (arith, fails.polls)) fails.accepted
 
   -- where a link was closed, or the listener
   pub serving_quiet : (x y z : N) (c0 c1 c2 : Connections) → Serving n x y c0 c1 → IsQuiet n y z

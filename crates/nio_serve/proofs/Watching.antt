@@ -6,10 +6,10 @@ use Rattle.std.proofs.Common.{refl, sym, ap, ◌∙◌, subst, arith, length-app
 use Rattle.std.specs.Prelude.{nat_lt}
 use Rattle.std.proofs.lemmas.Bool.{false≢true, ltb-true, ltb-false}
 use Rattle.std.proofs.lemmas.Option.{slice_get_past}
-use Rattle.nio_base.specs.declared.numbers.ChanNo.{ChanNo}
+use Rattle.nio_base.specs.declared.numbers.ChanId.{ChanId}
 use Rattle.nio_serve.proofs.Counts.{count_all}
-use Rattle.nio_serve.specs.Board.{BoardView, IsSameBoard, IsSameSeat}
-use Rattle.nio_serve.specs.Serving.{count_below, target_of}
+use Rattle.nio_board.specs.Board.{BoardView, IsSameBoard, IsSameSeat}
+use Rattle.nio_serve.specs.Slots.{count_below, target_at}
 use Rattle.nio_serve.specs.Slots.{has_ended}
 use Rattle.nio_serve.specs.Watching.{Watching, WatchesAll, channels_of}
 use Rattle.nio_serve.specs.declared.connections.Connections.{Connections}
@@ -78,11 +78,11 @@ longer xs more x is = ap length is ∙ length-append xs (x ∷ [])
 
 -- a connection was added, and both of its channels registered
 pub watching_added : {A E : Type 0} (r : Result A E) {a b : BoardView} (c0 c1 : Connections) (slot : Slot) (n : ℕ)
-    (target : ChanNo) → IsSameSeat a b → n ≡ length c0.slots.items → target ≡ target_of n
-    → c1.slots.items ≡ c0.slots.items ++ slot ∷ [] → b.registered ≡ target.0 + 1 → Watching a b c1 r
+    (target : ChanId) → IsSameSeat a b → n ≡ length c0.slots.items → target ≡ target_at n
+    → c1.slots.items ≡ c0.slots.items ++ slot ∷ [] → b.registered ≡ target.number.0 + 1 → Watching a b c1 r
 watching_added r {b = b} c0 c1 slot n target seat here its more registered =
     let count : length c1.slots.items ≡ length c0.slots.items + 1 = longer c0.slots.items c1.slots.items slot more in
-    let number : target.0 ≡ 2 * n + 2 = ap (λ (x : ChanNo). x.0) its in
+    let number : target.number.0 ≡ 2 * n + 1 + 1 = ap (λ (x : ChanId). x.number.0) its in
     let all : WatchesAll b c1 = omega (arith, count, here, number, registered) in
     record { seat = seat; all = on_ok_any r all; within = omega (arith, all) }
 

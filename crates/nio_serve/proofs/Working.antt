@@ -2,15 +2,16 @@
 use Rattle.std.proofs.Common.{◌≡◌, ◌≢◌, ℕ, ◌≤◌, inl, inr, refl}
 use Rattle.std.proofs.Common.{sym, ap, subst, ◌∙◌, arith}
 use Rattle.std.proofs.Math.Nat.{eq-or-lt_of_le}
-use Rattle.nio_base.specs.declared.numbers.ChanNo.{ChanNo}
+use Rattle.nio_base.specs.declared.numbers.ChanId.{ChanId}
 use Rattle.nio_bytes.specs.Cause.{Rose}
-use Rattle.nio_link.proofs.Channels.{is_or_not}
+use Rattle.nio_base.specs.declared.numbers.ChanNo.{ChanNo}
+use Rattle.nio_link.proofs.Channels.{channel_is_or_not}
 use Rattle.nio_link.specs.Links.{IsSameBut}
 use Rattle.nio_link.specs.Places.{IsVacant, closed, place_after_close}
 use Rattle.nio_link.specs.declared.place.Place.{Place}
 use Rattle.nio_link.specs.declared.place.Standing.{Standing}
 use Rattle.nio_link.specs.declared.place.Standing.TheVariants as standing
-use Rattle.nio_serve.specs.declared.way.Way.{Ghosts}
+use Rattle.nio_link.specs.Nets.{Members, Closes, view_of}
 use Rattle.nio_serve.specs.Nets.{Works, Accepts, Begins, IsQuiet, OnlyCloses}
 
 pub rose_from : (before mid now : ℕ) → before ≤ mid → Rose mid now → Rose before now
@@ -24,9 +25,9 @@ rose_on before mid now later (inr full) more =
 
 -- ---- channels
 
-pub later_all : (before now : ChanNo → ℕ) (own : ChanNo) → before own ≤ now own → IsSameBut own before now
-    → (c : ChanNo) → before c ≤ now c
-later_all before now own here others c = elim (is_or_not c own) [
+pub later_all : (before now : ChanId → ℕ) (own : ChanId) → before own ≤ now own → IsSameBut own before now
+    → (c : ChanId) → before c ≤ now c
+later_all before now own here others c = elim (channel_is_or_not c own) [
   | inl same ↦ subst (λ x. before x ≤ now x) (sym same) here
   | inr other ↦ let at : now c ≡ before c = others c other in omega arith
 ]
@@ -77,8 +78,8 @@ closes_then before mid now (inr is) (inr again) =
     (closed_again before.standing) in
     inr (again ∙ (twice ∙ once))
 
-module _ {W N : Type 0} (n : Ghosts W N) where
-  pub works_none : (a b : ChanNo) (x : N) → Works n a b x x
+module _ {N : Type 0} (n : Members N) where
+  pub works_none : (a b : ChanId) (x : N) → Works n a b x x
   works_none a b x = record {
     links = λ c _ _. refl;
     places = λ c _ _. refl;
@@ -90,7 +91,7 @@ module _ {W N : Type 0} (n : Ghosts W N) where
     accepted = refl;
   }
 
-  pub works_then : (a b : ChanNo) (x y z : N) → Works n a b x y → Works n a b y z → Works n a b x z
+  pub works_then : (a b : ChanId) (x y z : N) → Works n a b x y → Works n a b y z → Works n a b x z
   works_then a b x y z first second = record {
     links = λ c not_a not_b. second.links c not_a not_b ∙ first.links c not_a not_b;
     places = λ c not_a not_b. second.places c not_a not_b ∙ first.places c not_a not_b;
@@ -103,7 +104,7 @@ module _ {W N : Type 0} (n : Ghosts W N) where
   }
 
   -- as work on two links
-  pub works_first : (a b : ChanNo) (x y : N) → Works n a a x y → Works n a b x y
+  pub works_first : (a b : ChanId) (x y : N) → Works n a a x y → Works n a b x y
   works_first a b x y work = record {
     links = λ c not_a not_b. work.links c not_a not_a;
     places = λ c not_a not_b. work.places c not_a not_a;
@@ -115,7 +116,7 @@ module _ {W N : Type 0} (n : Ghosts W N) where
     accepted = work.accepted;
   }
 
-  pub works_swapped : (a b : ChanNo) (x y : N) → Works n a b x y → Works n b a x y
+  pub works_swapped : (a b : ChanId) (x y : N) → Works n a b x y → Works n b a x y
   works_swapped a b x y work = record {
     links = λ c not_b not_a. work.links c not_a not_b;
     places = λ c not_b not_a. work.places c not_a not_b;
@@ -127,17 +128,17 @@ module _ {W N : Type 0} (n : Ghosts W N) where
     accepted = work.accepted;
   }
 
-  pub works_second : (a b : ChanNo) (x y : N) → Works n b b x y → Works n a b x y
+  pub works_second : (a b : ChanId) (x y : N) → Works n b b x y → Works n a b x y
   works_second a b x y work = works_swapped b a x y (works_first b a x y work)
 
   -- a connection was accepted, and then begun
-  pub begins_then : (client target : ChanNo) (x y z : N) → Accepts n client x y → Begins n client target y z
+  pub begins_then : (client target : ChanId) (x y z : N) → Accepts n client x y → Begins n client target y z
       → Begins n client target x z
   begins_then client target x y z first second = record {
     links = λ c. second.links c ∙ first.links c;
     places = λ c not_client not_target. second.places c not_client not_target ∙ first.places c not_client;
     faults = λ c not_target. second.faults c not_target ∙ first.faults c;
-    ready = λ c. second.ready c ∙ first.ready c;
+    ready = λ c not_client not_target. second.ready c not_client not_target ∙ first.ready c not_client;
     later = λ c. omega (arith, first.faults c, second.later c);
     polls = second.polls ∙ first.polls;
   }
@@ -146,20 +147,20 @@ module _ {W N : Type 0} (n : Ghosts W N) where
   quiet_then x y z first second = record {
     links = λ c. second.links c ∙ first.links c;
     places = λ c. closes_then (n.place x c) (n.place y c) (n.place z c) (first.places c) (second.places c);
-    ready = λ c. second.ready c ∙ first.ready c;
     faults = λ c. second.faults c ∙ first.faults c;
     polls = second.polls ∙ first.polls;
     accepted = second.accepted ∙ first.accepted;
   }
 
   -- work on two links, of which some were then closed
-  pub works_quiet : (a b : ChanNo) (x y z : N) → Works n a b x y → IsQuiet n y z
-      → ((c : ChanNo) → c ≢ a → c ≢ b → n.place z c ≡ n.place y c) → Works n a b x z
-  works_quiet a b x y z work quiet places = record {
+  pub works_quiet : (a b : ChanId) (x y z : N) → Works n a b x y → IsQuiet n y z
+      → ((c : ChanNo) → c ≢ a.number → c ≢ b.number → n.ready z c ≡ n.ready y c)
+      → ((c : ChanId) → c ≢ a → c ≢ b → n.place z c ≡ n.place y c) → Works n a b x z
+  works_quiet a b x y z work quiet ready places = record {
     links = λ c not_a not_b. quiet.links c ∙ work.links c not_a not_b;
     places = λ c not_a not_b. places c not_a not_b ∙ work.places c not_a not_b;
     faults = λ c not_a not_b. quiet.faults c ∙ work.faults c not_a not_b;
-    ready = λ c not_a not_b. quiet.ready c ∙ work.ready c not_a not_b;
+    ready = λ c not_a not_b. ready c not_a not_b ∙ work.ready c not_a not_b;
     later = λ c. omega (arith, work.later c, quiet.faults c);
     roles = λ c. role_stays (n.place y c) (n.place z c) (quiet.places c) ∙ work.roles c;
     polls = quiet.polls ∙ work.polls;
@@ -167,22 +168,18 @@ module _ {W N : Type 0} (n : Ghosts W N) where
   }
 
   -- where one channel was closed
-  closes_one : (own : ChanNo) (x y : N) → n.place y own ≡ place_after_close (n.place x own)
-      → IsSameBut own (n.place x) (n.place y) → (c : ChanNo) → OnlyCloses (n.place x c) (n.place y c)
-  closes_one own x y here others c = elim (is_or_not c own) [
-    | inl same ↦ inr (ap (n.place y) same ∙ here ∙ ap (λ (k : ChanNo). place_after_close (n.place x k)) (sym same))
+  closes_one : (own : ChanId) (x y : N) → n.place y own ≡ place_after_close (n.place x own)
+      → IsSameBut own (n.place x) (n.place y) → (c : ChanId) → OnlyCloses (n.place x c) (n.place y c)
+  closes_one own x y here others c = elim (channel_is_or_not c own) [
+    | inl same ↦ inr (ap (n.place y) same ∙ here ∙ ap (λ (k : ChanId). place_after_close (n.place x k)) (sym same))
     | inr other ↦ inl (others c other)
   ]
 
-  pub quiet_close : (own : ChanNo) (x y : N) → ((c : ChanNo) → n.link y c ≡ n.link x c)
-      → n.place y own ≡ place_after_close (n.place x own) → IsSameBut own (n.place x) (n.place y)
-      → ((c : ChanNo) → n.ready y c ≡ n.ready x c) → ((c : ChanNo) → n.faults y c ≡ n.faults x c)
-      → n.poll_faults y ≡ n.poll_faults x → n.accepted y ≡ n.accepted x → IsQuiet n x y
-  quiet_close own x y links here others ready faults polls accepted = record {
-    links = links;
-    places = closes_one own x y here others;
-    ready = ready;
-    faults = faults;
-    polls = polls;
-    accepted = accepted;
+  pub quiet_close : (own : ChanId) (x y : N) → Closes own (view_of n x) (view_of n y) → IsQuiet n x y
+  quiet_close own x y closes = record {
+    links = closes.links;
+    places = closes_one own x y closes.place closes.places;
+    faults = closes.faults;
+    polls = closes.polls;
+    accepted = closes.accepted;
   }

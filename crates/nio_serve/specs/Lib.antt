@@ -1,11 +1,6 @@
-pub mod Board
-pub mod BoardCalls
-pub mod BoardLaws
-pub mod Called
 pub mod Nets
 pub mod Passing
 pub mod Relaying
 pub mod Serving
 pub mod Slots
 pub mod Watching
-pub mod Ways

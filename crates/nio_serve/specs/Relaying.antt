@@ -3,7 +3,7 @@ use Rattle.std.specs.Prelude.{◌≡◌, Bool, true, false, IsFalse, Result, Ok,
 use Rattle.nio_base.specs.declared.numbers.Addr.{Addr}
 use Rattle.nio_link.specs.Links.{Link}
 use Rattle.nio_link.specs.declared.net.Failed.{Failed}
-use Rattle.nio_link.specs.Places.{unused}
+use Rattle.nio_link.specs.Places.{never_asked}
 use Rattle.nio_link.specs.declared.place.Place.{Place}
 use Rattle.nio_link.specs.declared.place.Role.{Role}
 use Rattle.nio_link.specs.declared.place.Role.TheVariants as role
@@ -33,7 +33,7 @@ pub record IsEnd (l : Link) (p : Place) (c : Carried) : Type 0 where
 -- a link that wasn't asked for yet has carried this
 pub record IsUnasked (l : Link) (p : Place) (c : Carried) : Type 0 where
   pub carried : HasCarried l c
-  pub stands : p ≡ unused
+  pub stands : p ≡ never_asked
   pub unshut : IsFalse c.shut
 
 -- a link that is still to be connected has carried this

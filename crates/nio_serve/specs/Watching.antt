@@ -1,6 +1,6 @@
 -- Which channels a proxy has registered.
 use Rattle.std.specs.Prelude.{◌≡◌, ℕ, ◌+◌, ◌*◌, ◌≤◌, OnOk, Result, length}
-use Rattle.nio_serve.specs.Board.{BoardView, IsSameSeat}
+use Rattle.nio_board.specs.Board.{BoardView, IsSameSeat}
 use Rattle.nio_serve.specs.declared.connections.Connections.{Connections}
 
 -- those of so many connections, and the listener's

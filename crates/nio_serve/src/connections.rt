@@ -1,80 +1,76 @@
 //! All connections that were accepted.
 ghost use Rattle.std.specs.Prelude.{◌≡◌, ◌≢◌, ℕ, ◌+◌, ◌<◌, ◌≤◌, [], ◌∷◌, ◌++◌, Some, Err, if◌then◌else◌, length};
 ghost use Rattle.std.specs.Prelude.{slice_get, vec_capacity, IfOk, IsFalse, IsTrue, MatchOption, OnErr};
+ghost use Rattle.nio_base.specs.declared.numbers.ChanId.{ChanId};
 ghost use Rattle.nio_base.specs.declared.numbers.ChanNo.{ChanNo};
 ghost use Rattle.nio_bytes.specs.Cause.{Rose};
-ghost use Rattle.nio_link.specs.Links.{IsSameBut};
-ghost use Rattle.nio_link.specs.Places.{unused, IsVacant};
+ghost use Rattle.nio_link.specs.Places.{IsFree, IsVacant};
 ghost use Rattle.nio_link.specs.declared.place.Role.TheVariants as role;
-ghost use Rattle.nio_link.specs.declared.place.Standing.TheVariants.{Linked, Listening, Nothing};
+ghost use Rattle.nio_link.specs.declared.place.Standing.TheVariants.{Linked, Listening};
 ghost use Rattle.nio_base.specs.Ops.{is_within};
-ghost use Rattle.nio_serve.specs.Board.{IsSameBoard};
-ghost use Rattle.nio_serve.specs.Nets.{Accepts, FailsToAccept, IsQuiet, IsStill};
-ghost use Rattle.nio_serve.specs.Serving.{client_of, listener, target_of};
+ghost use Rattle.nio_board.specs.Board.{IsSameBoard};
+ghost use Rattle.nio_serve.specs.Nets.{AreApart, Accepts, FailsToAccept, IsQuiet, IsStill};
+ghost use Rattle.nio_serve.specs.Serving.{listener};
 ghost use Rattle.nio_serve.specs.declared.serving.ServeError.TheVariants.{NetFault};
-ghost use Rattle.nio_serve.specs.declared.slot.Slot.TheVariants.{Live, Unaccepted};
-ghost use Rattle.nio_serve.specs.Slots.{AreServed, IsSameButOne, Serving, has_ended, has_faulted};
+ghost use Rattle.nio_serve.specs.declared.slot.Slot.TheVariants.{Live};
+ghost use Rattle.nio_serve.specs.Slots.{AreServed, IsSameButOne, Serving, client_at, target_at, has_ended, has_faulted};
 ghost use Rattle.nio_serve.specs.Watching.{Watching, WatchesAll};
 
-use crate::board::{Board, Refused};
 use crate::link::{Links, ToldOps};
 use crate::proxy::LISTENER;
 use crate::serving::ServeError;
 use crate::slot::{Relay, Slot, begin_relay, close_links, serve_relay, take_on};
 use crate::spare::Spare;
 use crate::way::Way;
-use nio_base::{Addr, ChanNo, Ops};
+use nio_base::{Addr, ChanId, ChanNo, Ops};
+use nio_board::{Board, Refused};
 use nio_link::Failed;
 use nio_relay::CAPACITY;
 use std::alloc::{AllocError, Global};
 use std::mem;
 use std::sync::Wait;
 
-/// The connections so far, by their numbers, of `conns` in all, whom they are connected to, and how many of them were
-/// accepted and have ended.
+/// The connections so far, by their numbers, of `conns` in all, whom they are connected to, and how many of them have
+/// ended.
 #[derive(Drop)]
 pub(crate) struct Connections {
     pub conns: u32,
     pub target: Addr,
     pub slots: Vec<Slot>,
     spare: Spare,
-    /// Whether no accept has failed.
-    pub is_listening: bool,
-    pub accepted: u32,
     pub ended: u32,
     pub faulted: u32,
 }
 
-// Accepts a connection under the channel of the next client, if one has come.
-fn accept<N, W: Way<N>>(way: &mut W, net: &mut N, client: ChanNo) -> Result<bool, Failed>
-    requires ready { IsTrue (is_within 16 (W.ready net.old listener)) }
+// Accepts a connection under the channel of the next client, if one has come. None has where the way holds that back.
+fn accept<N, W: Way<N>>(way: &mut W, net: &mut N, client: ChanId) -> Result<bool, Failed>
+    requires ready { IsTrue (is_within 16 (W.ready net.old listener.number)) }
     requires listens { (W.place net.old listener).standing ≡ Listening }
-    requires unasked { W.place net.old client ≡ unused }
+    requires free { IsFree (W.place net.old) client }
     ensures begun { IfOk result (λ more. IsTrue more → Accepts W.Way client net.old net.new) }
     ensures accepted { IfOk result (λ more. IsTrue more → W.place net.new client
         ≡ record { role = role.Accepted listener; standing = Linked }) }
     ensures early { IfOk result (λ more. IsFalse more → IsStill W.Way net.old net.new) }
-    ensures failed { OnErr result (FailsToAccept W.Way client net.old net.new) }
-    ensures unmade { OnErr result (W.place net.new client ≡ record {
-      role = role.Accepted listener;
-      standing = Nothing;
-    }) }
+    ensures failed { OnErr result (FailsToAccept W.Way net.old net.new) }
     ensures cause { OnErr result (Rose (W.faults net.old listener) (W.faults net.new listener)) }
 {
-    way.accept(net, LISTENER, client)
+    match way.accept(net, LISTENER, client) {
+        Some(answer) => answer,
+        None => Ok(false),
+    }
 }
 
 /// The links of a connection: its client's and its target's.
 pub(crate) fn links_of(number: usize) -> Links
     requires few { number < 16000 }
-    ensures client { result.client ≡ client_of number }
-    ensures target { result.target ≡ target_of number }
-    ensures apart { result.client ≢ result.target }
+    ensures client { result.client ≡ client_at number }
+    ensures target { result.target ≡ target_at number }
+    ensures apart { AreApart result.client result.target }
 {
     let client = 2 * number as u32 + 1;
     Links {
-        client: ChanNo(client),
-        target: ChanNo(client + 1),
+        client: ChanId::first(ChanNo(client)),
+        target: ChanId::first(ChanNo(client + 1)),
     }
 }
 
@@ -85,8 +81,6 @@ impl Connections {
         ensures room { IfOk result (λ c. conns ≤ vec_capacity c.slots) }
         ensures conns { IfOk result (λ c. c.conns ≡ conns) }
         ensures target { IfOk result (λ c. c.target ≡ target) }
-        ensures listening { IfOk result (λ c. IsTrue c.is_listening) }
-        ensures accepted { IfOk result (λ c. c.accepted ≡ 0) }
         ensures ended { IfOk result (λ c. c.ended ≡ 0) }
         ensures faulted { IfOk result (λ c. c.faulted ≡ 0) }
     {
@@ -95,8 +89,6 @@ impl Connections {
             target,
             slots: Vec::with_capacity(alloc, conns as usize)?,
             spare: Spare::new(alloc),
-            is_listening: true,
-            accepted: 0,
             ended: 0,
             faulted: 0,
         })
@@ -115,7 +107,7 @@ impl Connections {
         };
         match mem::replace(&mut self.slots[number], Slot::Clean) {
             Slot::Live(relay) => Some(relay),
-            Slot::Clean | Slot::Faulted | Slot::Dropped | Slot::Unaccepted => unreachable!(),
+            Slot::Clean | Slot::Faulted | Slot::Dropped => unreachable!(),
         }
     }
 
@@ -134,15 +126,12 @@ impl Connections {
         self.slots[number] = slot;
     }
 
-    // Adds the next connection, whose client was accepted, and for which there is room.
+    // Adds the next connection, for which there is room.
     fn add(&mut self, slot: Slot)
         requires room { length self.old.slots.items < vec_capacity self.old.slots }
-        requires few_accepted { self.old.accepted ≤ 16000 }
         requires few { self.old.ended ≤ 16000 }
         requires few_faulted { self.old.faulted ≤ 16000 }
         ensures slots { self.new.slots.items ≡ self.old.slots.items ++ (slot ∷ []) }
-        ensures accepted { self.new.accepted ≡ self.old.accepted + 1 }
-        ensures listening { self.new.is_listening ≡ self.old.is_listening }
         ensures ended { self.new.ended ≡ self.old.ended + (if has_ended (Some slot) then 1 else 0) }
         ensures faulted { self.new.faulted ≡ self.old.faulted + (if has_faulted (Some slot) then 1 else 0) }
         ensures room { vec_capacity self.old.slots ≤ vec_capacity self.new.slots }
@@ -151,24 +140,7 @@ impl Connections {
     {
         self.ended += u32::from(slot.has_ended());
         self.faulted += u32::from(slot.has_faulted());
-        self.accepted += 1;
         self.slots.push(slot).unwrap();
-    }
-
-    // Adds the next connection, whose client couldn't be accepted. No other one is accepted then.
-    fn stop_at_unaccepted(&mut self)
-        requires room { length self.old.slots.items < vec_capacity self.old.slots }
-        ensures slots { self.new.slots.items ≡ self.old.slots.items ++ (Unaccepted ∷ []) }
-        ensures accepted { self.new.accepted ≡ self.old.accepted }
-        ensures listening { IsFalse self.new.is_listening }
-        ensures ended { self.new.ended ≡ self.old.ended }
-        ensures faulted { self.new.faulted ≡ self.old.faulted }
-        ensures room { vec_capacity self.old.slots ≤ vec_capacity self.new.slots }
-        ensures conns { self.new.conns ≡ self.old.conns }
-        ensures target { self.new.target ≡ self.old.target }
-    {
-        self.is_listening = false;
-        self.slots.push(Slot::Unaccepted).unwrap();
     }
 
     /// Does what the two links of a connection were told ready for.
@@ -182,11 +154,11 @@ impl Connections {
         scratch: &mut [u8],
     ) -> Result<(), Refused>
         requires scratch { length scratch.old ≡ CAPACITY }
-        requires ready_client { IsTrue (is_within told.client (W.ready net.old (client_of number))) }
-        requires ready_target { IsTrue (is_within told.target (W.ready net.old (target_of number))) }
+        requires ready_client { IsTrue (is_within told.client (W.ready net.old (client_at number).number)) }
+        requires ready_target { IsTrue (is_within told.target (W.ready net.old (target_at number).number)) }
         requires served { AreServed (W.link net.old) (W.place net.old) self.old }
         ensures serving { Serving W.Way net.old net.new self.old self.new }
-        ensures ready { (c : ChanNo) → c ≢ client_of number → c ≢ target_of number → W.ready net.new c
+        ensures ready { (c : ChanNo) → c ≢ (client_at number).number → c ≢ (target_at number).number → W.ready net.new c
             ≡ W.ready net.old c }
         ensures listens { W.place net.new listener ≡ W.place net.old listener }
         ensures count { length self.new.slots.items ≡ length self.old.slots.items }
@@ -221,7 +193,7 @@ impl Connections {
     ) -> Result<(), Refused>
         requires served { AreServed (W.link net.old) (W.place net.old) self.old }
         ensures serving { Serving W.Way net.old net.new self.old self.new }
-        ensures ready { (c : ChanNo) → W.ready net.new c ≡ W.ready net.old c }
+        ensures ready { W.ready net.new listener.number ≡ W.ready net.old listener.number }
         ensures listens { W.place net.new listener ≡ W.place net.old listener }
         ensures count { length self.new.slots.items ≡ length self.old.slots.items }
         ensures board { IsSameBoard board.old board.new }
@@ -245,17 +217,16 @@ impl Connections {
         net: &mut N,
         board: &mut Board<'_>,
     ) -> Result<bool, ServeError>
-        requires ready { IsTrue (is_within 16 (W.ready net.old listener)) }
+        requires ready { IsTrue (is_within 16 (W.ready net.old listener.number)) }
         requires listens { (W.place net.old listener).standing ≡ Listening }
         requires served { AreServed (W.link net.old) (W.place net.old) self.old }
         requires few { length self.old.slots.items < self.old.conns }
-        requires listening { IsTrue self.old.is_listening }
         requires watched { WatchesAll board.old self.old }
         ensures serving { Serving W.Way net.old net.new self.old self.new }
-        ensures ready { IsSameBut listener (W.ready net.old) (W.ready net.new) }
         ensures listens { W.place net.new listener ≡ W.place net.old listener }
         ensures cause { result ≡ Err NetFault → Rose (W.faults net.old listener) (W.faults net.new listener) }
-        ensures more { IfOk result (λ more. IsTrue more → W.ready net.new listener ≡ W.ready net.old listener) }
+        ensures more { IfOk result (λ more. IsTrue more → W.ready net.new listener.number
+            ≡ W.ready net.old listener.number) }
         ensures watching { Watching board.old board.new self.new result }
     {
         let links = links_of(self.slots.len());
@@ -269,10 +240,7 @@ impl Connections {
                 }
             }
             Ok(false) => Ok(false),
-            Err(Failed) => {
-                self.stop_at_unaccepted();
-                Err(ServeError::NetFault)
-            }
+            Err(Failed) => Err(ServeError::NetFault),
         }
     }
 
@@ -286,17 +254,16 @@ impl Connections {
         net: &mut N,
         board: &mut Board<'_>,
     ) -> Result<bool, ServeError>
-        requires ready { IsTrue (is_within 16 (W.ready net.old listener)) }
+        requires ready { IsTrue (is_within 16 (W.ready net.old listener.number)) }
         requires listens { (W.place net.old listener).standing ≡ Listening }
         requires served { AreServed (W.link net.old) (W.place net.old) self.old }
         requires few { length self.old.slots.items < self.old.conns }
-        requires listening { IsTrue self.old.is_listening }
         requires watched { WatchesAll board.old self.old }
         ensures serving { Serving W.Way net.old net.new self.old self.new }
-        ensures ready { IsSameBut listener (W.ready net.old) (W.ready net.new) }
         ensures listens { W.place net.new listener ≡ W.place net.old listener }
         ensures cause { result ≡ Err NetFault → Rose (W.faults net.old listener) (W.faults net.new listener) }
-        ensures more { IfOk result (λ more. IsTrue more → W.ready net.new listener ≡ W.ready net.old listener) }
+        ensures more { IfOk result (λ more. IsTrue more → W.ready net.new listener.number
+            ≡ W.ready net.old listener.number) }
         ensures watching { Watching board.old board.new self.new result }
     {
         let number = self.slots.len();
@@ -313,8 +280,8 @@ impl Connections {
     pub(crate) fn close_all<N, W: Way<N>>(&self, way: &mut W, net: &mut N)
         requires served { AreServed (W.link net.old) (W.place net.old) self.now }
         ensures quiet { IsQuiet W.Way net.old net.new }
-        ensures closed { (k : ℕ) → k < length self.now.slots.items → IsVacant (W.place net.new (client_of k)).standing
-            × IsVacant (W.place net.new (target_of k)).standing }
+        ensures closed { (k : ℕ) → k < length self.now.slots.items → IsVacant (W.place net.new (client_at k)).standing
+            × IsVacant (W.place net.new (target_at k)).standing }
         ensures listens { W.place net.new listener ≡ W.place net.old listener }
     {
         for number in 0..self.slots.len() {
@@ -325,9 +292,9 @@ impl Connections {
 
 // Closes the links of a connection, if it hasn't ended.
 fn close_unended<N, W: Way<N>>(way: &mut W, net: &mut N, slot: &Slot, links: Links)
-    requires apart { links.client ≢ links.target }
+    requires apart { AreApart links.client links.target }
     ensures quiet { IsQuiet W.Way net.old net.new }
-    ensures places { (c : ChanNo) → c ≢ links.client → c ≢ links.target → W.place net.new c ≡ W.place net.old c }
+    ensures places { (c : ChanId) → c ≢ links.client → c ≢ links.target → W.place net.new c ≡ W.place net.old c }
     ensures closed { IsFalse (has_ended (Some slot.now)) → IsVacant (W.place net.new links.client).standing
         × IsVacant (W.place net.new links.target).standing }
 {

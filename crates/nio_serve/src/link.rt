@@ -1,18 +1,17 @@
 //! The work on one direction of a connection: reading, writing, passing on an end.
 ghost use Rattle.std.specs.Prelude.{◌≡◌, ◌≢◌, [], IfOk, IsTrue, OnErr, OnOk, length};
-ghost use Rattle.nio_base.specs.declared.numbers.ChanNo.{ChanNo};
 ghost use Rattle.nio_bytes.specs.Cause.{Rose};
-ghost use Rattle.nio_link.specs.Links.{IsGot};
+ghost use Rattle.nio_link.specs.Links.{IsGot, IsPut, after_read, after_write};
 ghost use Rattle.nio_link.specs.Places.{IsLinked};
+ghost use Rattle.nio_link.specs.declared.place.Standing.TheVariants as standing;
 ghost use Rattle.nio_relay.specs.Flow.{Flow, MayTake, buffered, takes};
 ghost use Rattle.nio_base.specs.Ops.{is_within};
-ghost use Rattle.nio_serve.specs.Nets.{Works};
-ghost use Rattle.nio_serve.specs.Passing.{BothSame, OneRose, Passes, flow_after_read};
-ghost use Rattle.nio_serve.specs.Ways.{ReadyAfterRead};
+ghost use Rattle.nio_serve.specs.Nets.{AreApart, Works};
+ghost use Rattle.nio_serve.specs.Passing.{BothSame, OneRose, Passes, ReadyAfterGot, ReadyAfterPut, flow_after_read};
 ghost use Rattle.nio_serve.specs.Relaying.{IsEnd, KeepsSource, KeepsSink, SameSink, SameSource, carried, open_or_shut};
 
 use crate::way::Way;
-use nio_base::{ChanNo, Ops};
+use nio_base::{ChanId, Ops};
 use nio_link::{Failed, Got, Put};
 use nio_relay::{CAPACITY, Direction};
 
@@ -25,8 +24,8 @@ const PASSES: u32 = 16;
 /// The links of a connection: its client's and its target's.
 #[derive(Clone, Copy, Debug, PartialEq, Eq)]
 pub(crate) struct Links {
-    pub client: ChanNo,
-    pub target: ChanNo,
+    pub client: ChanId,
+    pub target: ChanId,
 }
 
 /// What the two links of a connection were told ready for.
@@ -64,17 +63,58 @@ impl Flows {
     };
 }
 
-#[tactic(auto, using(crate::proofs::Bits::read_keeps_write))]
+// Reads what has come on a link. Nothing has come yet where the way holds that back.
+fn read<N, W: Way<N>>(way: &mut W, net: &mut N, own: ChanId, into: &mut [u8]) -> Result<Got, Failed>
+    requires some { into.old ≢ [] }
+    requires ready { IsTrue (is_within 1 (W.ready net.old own.number)) }
+    requires linked { IsLinked (W.place net.old own).standing }
+    ensures got { IfOk result (IsGot into.old) }
+    ensures link { W.link net.new own ≡ after_read result into.new (W.link net.old own) }
+    ensures work { Works W.Way own own net.old net.new }
+    ensures stands { W.place net.new own ≡ W.place net.old own }
+    ensures cause { OnErr result (Rose (W.faults net.old own) (W.faults net.new own)) }
+    ensures calm { OnOk result (W.faults net.new own ≡ W.faults net.old own) }
+    ensures ready { IfOk result (λ got. ReadyAfterGot got (W.ready net.old own.number) (W.ready net.new own.number)) }
+    ensures write { IsTrue (is_within 4 (W.ready net.old own.number))
+        → IsTrue (is_within 4 (W.ready net.new own.number)) }
+{
+    match way.read(net, own, into) {
+        Some(answer) => answer,
+        None => Ok(Got::NotYet),
+    }
+}
+
+// Writes bytes on a link. It takes none yet where the way holds that back.
+fn write<N, W: Way<N>>(way: &mut W, net: &mut N, own: ChanId, from: &[u8]) -> Result<Put, Failed>
+    requires some { from.now ≢ [] }
+    requires ready { IsTrue (is_within 4 (W.ready net.old own.number)) }
+    requires linked { (W.place net.old own).standing ≡ standing.Linked }
+    ensures put { IfOk result (IsPut from.now) }
+    ensures link { W.link net.new own ≡ after_write result from.now (W.link net.old own) }
+    ensures work { Works W.Way own own net.old net.new }
+    ensures stands { W.place net.new own ≡ W.place net.old own }
+    ensures cause { OnErr result (Rose (W.faults net.old own) (W.faults net.new own)) }
+    ensures calm { OnOk result (W.faults net.new own ≡ W.faults net.old own) }
+    ensures ready { IfOk result (λ put. ReadyAfterPut put (W.ready net.old own.number) (W.ready net.new own.number)) }
+    ensures read { IsTrue (is_within 1 (W.ready net.old own.number))
+        → IsTrue (is_within 1 (W.ready net.new own.number)) }
+{
+    match way.write(net, own, from) {
+        Some(answer) => answer,
+        None => Ok(Put::NotYet),
+    }
+}
+
 // Reads once what has come on a link into the direction that takes from it. Says whether more may be read at once.
 fn read_once<N, W: Way<N>>(
     way: &mut W,
     net: &mut N,
-    own: ChanNo,
+    own: ChanId,
     outgoing: &mut Direction,
     scratch: &mut [u8],
 ) -> Result<bool, Failed>
     requires scratch { length scratch.old ≡ CAPACITY }
-    requires ready { IsTrue (is_within 1 (W.ready net.old own)) }
+    requires ready { IsTrue (is_within 1 (W.ready net.old own.number)) }
     requires linked { IsLinked (W.place net.old own).standing }
     ensures source { KeepsSource outgoing.old outgoing.new (W.link net.old own) (W.place net.old own)
         (W.link net.new own) (W.place net.new own) }
@@ -83,14 +123,14 @@ fn read_once<N, W: Way<N>>(
     ensures stands { W.place net.new own ≡ W.place net.old own }
     ensures cause { OnErr result (Rose (W.faults net.old own) (W.faults net.new own)) }
     ensures calm { OnOk result (W.faults net.new own ≡ W.faults net.old own) }
-    ensures more { IfOk result (λ more. IsTrue more → W.ready net.new own ≡ W.ready net.old own) }
-    ensures write { IsTrue (is_within 4 (W.ready net.old own)) → IsTrue (is_within 4 (W.ready net.new own)) }
+    ensures more { IfOk result (λ more. IsTrue more → W.ready net.new own.number ≡ W.ready net.old own.number) }
+    ensures write { IsTrue (is_within 4 (W.ready net.old own.number)) → IsTrue (is_within 4 (W.ready net.new own.number)) }
 {
     let room = outgoing.room();
     if room == 0 || outgoing.is_ended() {
         return Ok(false);
     }
-    match way.read(net, own, &mut scratch[..room])? {
+    match read(way, net, own, &mut scratch[..room])? {
         Got::Bytes(count) => {
             outgoing.on_read(&scratch[..count]);
             Ok(true)
@@ -107,12 +147,12 @@ fn read_once<N, W: Way<N>>(
 fn read_all<N, W: Way<N>>(
     way: &mut W,
     net: &mut N,
-    own: ChanNo,
+    own: ChanId,
     outgoing: &mut Direction,
     scratch: &mut [u8],
 ) -> Result<(), Failed>
     requires scratch { length scratch.old ≡ CAPACITY }
-    requires ready { IsTrue (is_within 1 (W.ready net.old own)) }
+    requires ready { IsTrue (is_within 1 (W.ready net.old own.number)) }
     requires linked { IsLinked (W.place net.old own).standing }
     ensures source { KeepsSource outgoing.old outgoing.new (W.link net.old own) (W.place net.old own)
         (W.link net.new own) (W.place net.new own) }
@@ -121,7 +161,7 @@ fn read_all<N, W: Way<N>>(
     ensures stands { W.place net.new own ≡ W.place net.old own }
     ensures cause { OnErr result (Rose (W.faults net.old own) (W.faults net.new own)) }
     ensures calm { OnOk result (W.faults net.new own ≡ W.faults net.old own) }
-    ensures write { IsTrue (is_within 4 (W.ready net.old own)) → IsTrue (is_within 4 (W.ready net.new own)) }
+    ensures write { IsTrue (is_within 4 (W.ready net.old own.number)) → IsTrue (is_within 4 (W.ready net.new own.number)) }
 {
     for _ in 0..CALLS {
         if !read_once(way, net, own, outgoing, scratch)? {
@@ -132,14 +172,13 @@ fn read_all<N, W: Way<N>>(
 }
 
 // Writes once what a direction buffers to the link on which it is put. Says whether more may be written at once.
-#[tactic(auto, using(crate::proofs::Bits::write_keeps_read))]
 fn write_once<N, W: Way<N>>(
     way: &mut W,
     net: &mut N,
-    own: ChanNo,
+    own: ChanId,
     incoming: &mut Direction,
 ) -> Result<bool, Failed>
-    requires ready { IsTrue (is_within 4 (W.ready net.old own)) }
+    requires ready { IsTrue (is_within 4 (W.ready net.old own.number)) }
     requires stands { (W.place net.old own).standing ≡ open_or_shut incoming.old.shut }
     ensures sink { KeepsSink incoming.old incoming.new (W.link net.old own) (W.place net.old own) (W.link net.new own)
         (W.place net.new own) }
@@ -149,14 +188,14 @@ fn write_once<N, W: Way<N>>(
     ensures shut { incoming.new.shut ≡ incoming.old.shut }
     ensures cause { OnErr result (Rose (W.faults net.old own) (W.faults net.new own)) }
     ensures calm { OnOk result (W.faults net.new own ≡ W.faults net.old own) }
-    ensures more { IfOk result (λ more. IsTrue more → W.ready net.new own ≡ W.ready net.old own) }
-    ensures read { IsTrue (is_within 1 (W.ready net.old own)) → IsTrue (is_within 1 (W.ready net.new own)) }
+    ensures more { IfOk result (λ more. IsTrue more → W.ready net.new own.number ≡ W.ready net.old own.number) }
+    ensures read { IsTrue (is_within 1 (W.ready net.old own.number)) → IsTrue (is_within 1 (W.ready net.new own.number)) }
 {
     let front = incoming.front();
     if front.is_empty() || incoming.is_shut() {
         return Ok(false);
     }
-    match way.write(net, own, front)? {
+    match write(way, net, own, front)? {
         Put::Bytes(count) => {
             incoming.on_written(count);
             Ok(true)
@@ -169,10 +208,10 @@ fn write_once<N, W: Way<N>>(
 fn write_all<N, W: Way<N>>(
     way: &mut W,
     net: &mut N,
-    own: ChanNo,
+    own: ChanId,
     incoming: &mut Direction,
 ) -> Result<bool, Failed>
-    requires ready { IsTrue (is_within 4 (W.ready net.old own)) }
+    requires ready { IsTrue (is_within 4 (W.ready net.old own.number)) }
     requires stands { (W.place net.old own).standing ≡ open_or_shut incoming.old.shut }
     ensures sink { KeepsSink incoming.old incoming.new (W.link net.old own) (W.place net.old own) (W.link net.new own)
         (W.place net.new own) }
@@ -182,8 +221,8 @@ fn write_all<N, W: Way<N>>(
     ensures shut { incoming.new.shut ≡ incoming.old.shut }
     ensures cause { OnErr result (Rose (W.faults net.old own) (W.faults net.new own)) }
     ensures calm { OnOk result (W.faults net.new own ≡ W.faults net.old own) }
-    ensures read { IsTrue (is_within 1 (W.ready net.old own)) → IsTrue (is_within 1 (W.ready net.new own)) }
-    ensures writable { IfOk result (λ more. IsTrue more → IsTrue (is_within 4 (W.ready net.new own))) }
+    ensures read { IsTrue (is_within 1 (W.ready net.old own.number)) → IsTrue (is_within 1 (W.ready net.new own.number)) }
+    ensures writable { IfOk result (λ more. IsTrue more → IsTrue (is_within 4 (W.ready net.new own.number))) }
     ensures none_buffered { IfOk result (λ more. IsTrue more → buffered incoming.new ≡ []) }
 {
     for _ in 0..CALLS {
@@ -199,16 +238,16 @@ fn write_all<N, W: Way<N>>(
 
 // Writes bytes to the link `own` that were just read, while none were buffered. What it doesn't take is buffered. Says
 // whether it took all.
-#[tactic(auto, using(crate::proofs::Bits::write_keeps_read, crate::proofs::Carrying::buffered_new, crate::proofs::Carrying::buffered_passed))]
+#[tactic(auto, using(crate::proofs::Carrying::buffered_new, crate::proofs::Carrying::buffered_passed))]
 fn write_new<N, W: Way<N>>(
     way: &mut W,
     net: &mut N,
-    own: ChanNo,
+    own: ChanId,
     direction: &mut Direction,
     bytes: &[u8],
 ) -> Result<bool, Failed>
     requires some { bytes.now ≢ [] }
-    requires ready { IsTrue (is_within 4 (W.ready net.old own)) }
+    requires ready { IsTrue (is_within 4 (W.ready net.old own.number)) }
     requires stands { (W.place net.old own).standing ≡ open_or_shut direction.old.shut }
     requires bytes { MayTake direction.old bytes.now }
     requires none_buffered { buffered direction.old ≡ [] }
@@ -220,8 +259,8 @@ fn write_new<N, W: Way<N>>(
     ensures shut { direction.new.shut ≡ direction.old.shut }
     ensures cause { OnErr result (Rose (W.faults net.old own) (W.faults net.new own)) }
     ensures calm { OnOk result (W.faults net.new own ≡ W.faults net.old own) }
-    ensures read { IsTrue (is_within 1 (W.ready net.old own)) → IsTrue (is_within 1 (W.ready net.new own)) }
-    ensures writable { IfOk result (λ all. IsTrue all → IsTrue (is_within 4 (W.ready net.new own))) }
+    ensures read { IsTrue (is_within 1 (W.ready net.old own.number)) → IsTrue (is_within 1 (W.ready net.new own.number)) }
+    ensures writable { IfOk result (λ all. IsTrue all → IsTrue (is_within 4 (W.ready net.new own.number))) }
     ensures none_buffered { IfOk result (λ all. IsTrue all → buffered direction.new ≡ []) }
 {
     direction.law();
@@ -229,7 +268,7 @@ fn write_new<N, W: Way<N>>(
         direction.on_read(bytes);
         return Ok(false);
     }
-    match way.write(net, own, bytes) {
+    match write(way, net, own, bytes) {
         Ok(Put::Bytes(count)) => {
             direction.on_passed(bytes, count);
             Ok(count == bytes.len())
@@ -245,16 +284,15 @@ fn write_new<N, W: Way<N>>(
     }
 }
 
-// Reads once what has come on a link.
-#[tactic(auto, using(crate::proofs::Bits::read_keeps_write))]
+// Reads once what has come on a link, into the whole buffer.
 fn read_new<N, W: Way<N>>(
     way: &mut W,
     net: &mut N,
-    own: ChanNo,
+    own: ChanId,
     scratch: &mut [u8],
 ) -> Result<Got, Failed>
     requires scratch { length scratch.old ≡ CAPACITY }
-    requires ready { IsTrue (is_within 1 (W.ready net.old own)) }
+    requires ready { IsTrue (is_within 1 (W.ready net.old own.number)) }
     requires linked { IsLinked (W.place net.old own).standing }
     ensures got { IfOk result (IsGot scratch.old) }
     ensures source { (f : Flow) → KeepsSource f (flow_after_read result scratch.new f) (W.link net.old own)
@@ -263,10 +301,10 @@ fn read_new<N, W: Way<N>>(
     ensures stands { W.place net.new own ≡ W.place net.old own }
     ensures cause { OnErr result (Rose (W.faults net.old own) (W.faults net.new own)) }
     ensures calm { OnOk result (W.faults net.new own ≡ W.faults net.old own) }
-    ensures ready { ReadyAfterRead result (W.ready net.old own) (W.ready net.new own) }
-    ensures write { IsTrue (is_within 4 (W.ready net.old own)) → IsTrue (is_within 4 (W.ready net.new own)) }
+    ensures ready { IfOk result (λ got. ReadyAfterGot got (W.ready net.old own.number) (W.ready net.new own.number)) }
+    ensures write { IsTrue (is_within 4 (W.ready net.old own.number)) → IsTrue (is_within 4 (W.ready net.new own.number)) }
 {
-    way.read(net, own, scratch)
+    read(way, net, own, scratch)
 }
 
 // Reads once from the link `source`, and writes to the link `sink` at once what has come. Says whether more may be
@@ -274,23 +312,23 @@ fn read_new<N, W: Way<N>>(
 fn pass_once<N, W: Way<N>>(
     way: &mut W,
     net: &mut N,
-    source: ChanNo,
-    sink: ChanNo,
+    source: ChanId,
+    sink: ChanId,
     direction: &mut Direction,
     scratch: &mut [u8],
 ) -> Result<bool, Failed>
     requires scratch { length scratch.old ≡ CAPACITY }
-    requires apart { source ≢ sink }
-    requires read { IsTrue (is_within 1 (W.ready net.old source)) }
-    requires write { IsTrue (is_within 4 (W.ready net.old sink)) }
+    requires apart { AreApart source sink }
+    requires read { IsTrue (is_within 1 (W.ready net.old source.number)) }
+    requires write { IsTrue (is_within 4 (W.ready net.old sink.number)) }
     requires linked { IsLinked (W.place net.old source).standing }
     requires stands { (W.place net.old sink).standing ≡ open_or_shut direction.old.shut }
     requires none_buffered { buffered direction.old ≡ [] }
     ensures passes { Passes W.Way source sink direction.old direction.new net.old net.new }
     ensures cause { OnErr result (OneRose (W.faults net.old) (W.faults net.new) source sink) }
     ensures calm { OnOk result (BothSame (W.faults net.old) (W.faults net.new) source sink) }
-    ensures readable { IfOk result (λ more. IsTrue more → IsTrue (is_within 1 (W.ready net.new source))) }
-    ensures writable { IfOk result (λ more. IsTrue more → IsTrue (is_within 4 (W.ready net.new sink))) }
+    ensures readable { IfOk result (λ more. IsTrue more → IsTrue (is_within 1 (W.ready net.new source.number))) }
+    ensures writable { IfOk result (λ more. IsTrue more → IsTrue (is_within 4 (W.ready net.new sink.number))) }
     ensures none_buffered { IfOk result (λ more. IsTrue more → buffered direction.new ≡ []) }
 {
     if direction.is_ended() {
@@ -308,15 +346,15 @@ fn pass_once<N, W: Way<N>>(
 fn pass_all<N, W: Way<N>>(
     way: &mut W,
     net: &mut N,
-    source: ChanNo,
-    sink: ChanNo,
+    source: ChanId,
+    sink: ChanId,
     direction: &mut Direction,
     scratch: &mut [u8],
 ) -> Result<bool, Failed>
     requires scratch { length scratch.old ≡ CAPACITY }
-    requires apart { source ≢ sink }
-    requires read { IsTrue (is_within 1 (W.ready net.old source)) }
-    requires write { IsTrue (is_within 4 (W.ready net.old sink)) }
+    requires apart { AreApart source sink }
+    requires read { IsTrue (is_within 1 (W.ready net.old source.number)) }
+    requires write { IsTrue (is_within 4 (W.ready net.old sink.number)) }
     requires linked { IsLinked (W.place net.old source).standing }
     requires stands { (W.place net.old sink).standing ≡ open_or_shut direction.old.shut }
     requires none_buffered { buffered direction.old ≡ [] }
@@ -336,19 +374,19 @@ fn pass_all<N, W: Way<N>>(
 fn write_told<N, W: Way<N>>(
     way: &mut W,
     net: &mut N,
-    source: ChanNo,
-    sink: ChanNo,
+    source: ChanId,
+    sink: ChanId,
     direction: &mut Direction,
     can_write: bool,
 ) -> Result<bool, Failed>
-    requires apart { source ≢ sink }
-    requires ready { IsTrue can_write → IsTrue (is_within 4 (W.ready net.old sink)) }
+    requires apart { AreApart source sink }
+    requires ready { IsTrue can_write → IsTrue (is_within 4 (W.ready net.old sink.number)) }
     requires stands { (W.place net.old sink).standing ≡ open_or_shut direction.old.shut }
     ensures passes { Passes W.Way source sink direction.old direction.new net.old net.new }
-    ensures readable { W.ready net.new source ≡ W.ready net.old source }
+    ensures readable { W.ready net.new source.number ≡ W.ready net.old source.number }
     ensures cause { OnErr result (OneRose (W.faults net.old) (W.faults net.new) source sink) }
     ensures calm { OnOk result (BothSame (W.faults net.old) (W.faults net.new) source sink) }
-    ensures writable { IfOk result (λ more. IsTrue more → IsTrue (is_within 4 (W.ready net.new sink))) }
+    ensures writable { IfOk result (λ more. IsTrue more → IsTrue (is_within 4 (W.ready net.new sink.number))) }
     ensures none_buffered { IfOk result (λ more. IsTrue more → buffered direction.new ≡ []) }
 {
     if can_write {
@@ -368,16 +406,16 @@ fn is_filled(before: usize, now: usize) -> bool {
 fn read_told<N, W: Way<N>>(
     way: &mut W,
     net: &mut N,
-    source: ChanNo,
-    sink: ChanNo,
+    source: ChanId,
+    sink: ChanId,
     direction: &mut Direction,
     can: Can,
     scratch: &mut [u8],
 ) -> Result<bool, Failed>
     requires scratch { length scratch.old ≡ CAPACITY }
-    requires apart { source ≢ sink }
-    requires read { IsTrue can.read → IsTrue (is_within 1 (W.ready net.old source)) }
-    requires write { IsTrue can.write → IsTrue (is_within 4 (W.ready net.old sink)) }
+    requires apart { AreApart source sink }
+    requires read { IsTrue can.read → IsTrue (is_within 1 (W.ready net.old source.number)) }
+    requires write { IsTrue can.write → IsTrue (is_within 4 (W.ready net.old sink.number)) }
     requires linked { IsLinked (W.place net.old source).standing }
     requires stands { (W.place net.old sink).standing ≡ open_or_shut direction.old.shut }
     requires none_buffered { IsTrue can.write → buffered direction.old ≡ [] }
@@ -401,16 +439,16 @@ fn read_told<N, W: Way<N>>(
 fn carry<N, W: Way<N>>(
     way: &mut W,
     net: &mut N,
-    source: ChanNo,
-    sink: ChanNo,
+    source: ChanId,
+    sink: ChanId,
     direction: &mut Direction,
     can: Can,
     scratch: &mut [u8],
 ) -> Result<bool, Failed>
     requires scratch { length scratch.old ≡ CAPACITY }
-    requires apart { source ≢ sink }
-    requires read { IsTrue can.read → IsTrue (is_within 1 (W.ready net.old source)) }
-    requires write { IsTrue can.write → IsTrue (is_within 4 (W.ready net.old sink)) }
+    requires apart { AreApart source sink }
+    requires read { IsTrue can.read → IsTrue (is_within 1 (W.ready net.old source.number)) }
+    requires write { IsTrue can.write → IsTrue (is_within 4 (W.ready net.old sink.number)) }
     requires linked { IsLinked (W.place net.old source).standing }
     requires stands { (W.place net.old sink).standing ≡ open_or_shut direction.old.shut }
     ensures passes { Passes W.Way source sink direction.old direction.new net.old net.new }
@@ -430,7 +468,7 @@ fn carry<N, W: Way<N>>(
 fn pass_end<N, W: Way<N>>(
     way: &mut W,
     net: &mut N,
-    own: ChanNo,
+    own: ChanId,
     incoming: &mut Direction,
 ) -> Result<(), Failed>
     requires stands { (W.place net.old own).standing ≡ open_or_shut incoming.old.shut }
@@ -459,9 +497,9 @@ fn carry_both<N, W: Way<N>>(
     scratch: &mut [u8],
 ) -> Result<Flows, Failed>
     requires scratch { length scratch.old ≡ CAPACITY }
-    requires ready_client { IsTrue (is_within told.client (W.ready net.old links.client)) }
-    requires ready_target { IsTrue (is_within told.target (W.ready net.old links.target)) }
-    requires apart { links.client ≢ links.target }
+    requires ready_client { IsTrue (is_within told.client (W.ready net.old links.client.number)) }
+    requires ready_target { IsTrue (is_within told.target (W.ready net.old links.target.number)) }
+    requires apart { AreApart links.client links.target }
     requires client { IsEnd (W.link net.old links.client) (W.place net.old links.client) (carried there.old back.old) }
     requires target { IsEnd (W.link net.old links.target) (W.place net.old links.target) (carried back.old there.old) }
     ensures client { IsEnd (W.link net.new links.client) (W.place net.new links.client) (carried there.new back.new) }
@@ -497,7 +535,7 @@ fn pass_ends<N, W: Way<N>>(
     there: &mut Direction,
     back: &mut Direction,
 ) -> Result<(), Failed>
-    requires apart { links.client ≢ links.target }
+    requires apart { AreApart links.client links.target }
     requires client { IsEnd (W.link net.old links.client) (W.place net.old links.client) (carried there.old back.old) }
     requires target { IsEnd (W.link net.old links.target) (W.place net.old links.target) (carried back.old there.old) }
     ensures client { IsEnd (W.link net.new links.client) (W.place net.new links.client) (carried there.new back.new) }
@@ -522,9 +560,9 @@ pub(crate) fn serve_links<N, W: Way<N>>(
     scratch: &mut [u8],
 ) -> Result<Flows, Failed>
     requires scratch { length scratch.old ≡ CAPACITY }
-    requires ready_client { IsTrue (is_within told.client (W.ready net.old links.client)) }
-    requires ready_target { IsTrue (is_within told.target (W.ready net.old links.target)) }
-    requires apart { links.client ≢ links.target }
+    requires ready_client { IsTrue (is_within told.client (W.ready net.old links.client.number)) }
+    requires ready_target { IsTrue (is_within told.target (W.ready net.old links.target.number)) }
+    requires apart { AreApart links.client links.target }
     requires client { IsEnd (W.link net.old links.client) (W.place net.old links.client) (carried there.old back.old) }
     requires target { IsEnd (W.link net.old links.target) (W.place net.old links.target) (carried back.old there.old) }
     ensures client { IsEnd (W.link net.new links.client) (W.place net.new links.client) (carried there.new back.new) }

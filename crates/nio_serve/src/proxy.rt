@@ -1,33 +1,37 @@
 //! The proxy at work: accepting, and serving what a selection tells.
-ghost use Rattle.std.specs.Prelude.{◌≡◌, ◌≢◌, ◌-◌, ◌/◌, ◌≤◌, ◌⊎◌, [], Err, IfErr, IfOk, IsSome, IsTrue, OnOk};
+ghost use Rattle.std.specs.Prelude.{◌≡◌, ◌≢◌, ℕ, ◌-◌, ◌/◌, ◌≤◌, ◌⊎◌, [], Err, IfErr, IfOk, IsSome, IsTrue, OnOk};
 ghost use Rattle.std.specs.Prelude.{length, vec_capacity};
+ghost use Rattle.nio_base.specs.declared.numbers.ChanId.{ChanId};
 ghost use Rattle.nio_base.specs.declared.numbers.ChanNo.{ChanNo};
 ghost use Rattle.nio_bytes.specs.Cause.{Rose};
 ghost use Rattle.nio_link.specs.Links.{IsSameBut};
 ghost use Rattle.nio_link.specs.Places.{IsVacant};
 ghost use Rattle.nio_link.specs.declared.place.Standing.TheVariants.{Listening};
 ghost use Rattle.nio_base.specs.Ops.{is_within};
-ghost use Rattle.nio_serve.specs.Board.{AreOrdered, AreReady, IsSameBoard, IsSameSeat};
+ghost use Rattle.nio_board.specs.Board.{AreOrdered, AreReady, IsSameBoard, IsSameSeat};
 ghost use Rattle.nio_serve.specs.Nets.{IsQuiet};
 ghost use Rattle.nio_serve.specs.Passing.{channel_after};
-ghost use Rattle.nio_serve.specs.Serving.{client_of, listener, target_of};
-ghost use Rattle.nio_serve.specs.Slots.{AreServed, ListensAt, Serving};
+ghost use Rattle.nio_serve.specs.Serving.{listener};
+ghost use Rattle.nio_serve.specs.Slots.{AreServed, ListensAt, Serving, client_at, target_at};
 ghost use Rattle.nio_serve.specs.Watching.{Watching, WatchesAll};
 ghost use Rattle.nio_serve.specs.declared.serving.ServeError.TheVariants.{NetFault};
 
-use crate::board::{Board, Port, Refused};
 use crate::connections::Connections;
 use crate::link::ToldOps;
 use crate::serving::ServeError;
 use crate::way::Way;
-use nio_base::{ChanNo, Kind, Ops};
+use nio_base::{ChanId, ChanNo, Kind, Ops};
+use nio_board::{Board, Port, Refused};
 use nio_poller::PollError;
 use nio_relay::{CAPACITY, ProxyPlan};
 use std::alloc::{AllocError, Global};
 use std::sync::Wait;
 
 /// The channel of the listener.
-pub(crate) const LISTENER: ChanNo = ChanNo(0);
+pub(crate) const LISTENER: ChanId = ChanId {
+    number: ChanNo(0),
+    serial: 0,
+};
 
 // The first channel after those of the connection to which this one belongs; after the listener's the first of all.
 fn channel_after(chan: ChanNo) -> u64
@@ -42,6 +46,16 @@ fn number_of(chan: ChanNo) -> usize
     ensures { result ≡ (chan.0 - 1) / 2 }
 {
     (chan.0 as usize - 1) / 2
+}
+
+// What the listener was told ready for: it comes first in what was told, if it was told anything.
+fn told_of_listener(told: &[(ChanNo, Ops)]) -> Ops
+    ensures { (ready : ChanNo → ℕ) → AreReady ready told.now → IsTrue (is_within result (ready listener.number)) }
+{
+    match told.first() {
+        Some((chan, ops)) if *chan == LISTENER.number => *ops,
+        Some(_) | None => Ops::NONE,
+    }
 }
 
 /// What a proxy works with. The listener is watched at its port, for `interest`, until all connections were accepted.
@@ -67,8 +81,6 @@ impl<'a> Proxy<'a> {
         ensures target { IfOk result (λ proxy. proxy.connections.target ≡ plan.target) }
         ensures watched { IfOk result (λ proxy. IsSome proxy.port) }
         ensures conns { IfOk result (λ proxy. proxy.connections.conns ≡ plan.conns) }
-        ensures listening { IfOk result (λ proxy. IsTrue proxy.connections.is_listening) }
-        ensures accepted { IfOk result (λ proxy. proxy.connections.accepted ≡ 0) }
         ensures ended { IfOk result (λ proxy. proxy.connections.ended ≡ 0) }
         ensures faulted { IfOk result (λ proxy. proxy.connections.faulted ≡ 0) }
         ensures seat { IfOk result (λ proxy. IsSameSeat board.entry proxy.board) }
@@ -79,7 +91,7 @@ impl<'a> Proxy<'a> {
             return Err(board);
         };
         let mut board = board;
-        match board.watch(rt, LISTENER, Kind::Listener, Ops::ACCEPT) {
+        match board.watch(rt, LISTENER.number, Kind::Listener, Ops::ACCEPT) {
             Ok(port) => Ok(Proxy {
                 board,
                 port: Some(port),
@@ -105,20 +117,19 @@ impl<'a> Proxy<'a> {
         way: &mut W,
         net: &mut N,
     ) -> Result<bool, ServeError>
-        requires ready { IsTrue (is_within 16 (W.ready net.old listener)) }
+        requires ready { IsTrue (is_within 16 (W.ready net.old listener.number)) }
         requires listens { (W.place net.old listener).standing ≡ Listening }
         requires served { AreServed (W.link net.old) (W.place net.old) self.old.connections }
         requires watched { WatchesAll self.old.board self.old.connections }
         ensures serving { Serving W.Way net.old net.new self.old.connections self.new.connections }
-        ensures ready { IsSameBut listener (W.ready net.old) (W.ready net.new) }
         ensures listens { W.place net.new listener ≡ W.place net.old listener }
         ensures port { self.new.port ≡ self.old.port }
         ensures cause { result ≡ Err NetFault → Rose (W.faults net.old listener) (W.faults net.new listener) }
-        ensures more { IfOk result (λ more. IsTrue more → W.ready net.new listener ≡ W.ready net.old listener) }
+        ensures more { IfOk result (λ more. IsTrue more → W.ready net.new listener.number
+            ≡ W.ready net.old listener.number) }
         ensures watching { Watching self.old.board self.new.board self.new.connections result }
     {
-        let has_next = self.connections.slots.len() < self.connections.conns as usize;
-        if has_next && self.connections.is_listening {
+        if self.connections.slots.len() < self.connections.conns as usize {
             self.connections
                 .accept(rt, alloc, way, net, &mut self.board)
         } else {
@@ -134,14 +145,13 @@ impl<'a> Proxy<'a> {
         way: &mut W,
         net: &mut N,
     ) -> Result<(), ServeError>
-        requires ready { IsTrue (is_within 16 (W.ready net.old listener)) }
+        requires ready { IsTrue (is_within 16 (W.ready net.old listener.number)) }
         requires listens { (W.place net.old listener).standing ≡ Listening }
         requires served { AreServed (W.link net.old) (W.place net.old) self.old.connections }
         requires watched { WatchesAll self.old.board self.old.connections }
         ensures serving { Serving W.Way net.old net.new self.old.connections self.new.connections }
         ensures listens { W.place net.new listener ≡ W.place net.old listener }
         ensures port { self.new.port ≡ self.old.port }
-        ensures ready { IsSameBut listener (W.ready net.old) (W.ready net.new) }
         ensures cause { result ≡ Err NetFault → Rose (W.faults net.old listener) (W.faults net.new listener) }
         ensures watching { Watching self.old.board self.new.board self.new.connections result }
     {
@@ -162,14 +172,13 @@ impl<'a> Proxy<'a> {
         net: &mut N,
         ops: Ops,
     ) -> Result<(), ServeError>
-        requires ready { IsTrue (is_within ops (W.ready net.old listener)) }
+        requires ready { IsTrue (is_within ops (W.ready net.old listener.number)) }
         requires listens { ListensAt self.old.port (W.place net.old listener).standing }
         requires served { AreServed (W.link net.old) (W.place net.old) self.old.connections }
         requires watched { WatchesAll self.old.board self.old.connections }
         ensures serving { Serving W.Way net.old net.new self.old.connections self.new.connections }
         ensures listens { W.place net.new listener ≡ W.place net.old listener }
         ensures port { self.new.port ≡ self.old.port }
-        ensures ready { IsSameBut listener (W.ready net.old) (W.ready net.new) }
         ensures cause { result ≡ Err NetFault → Rose (W.faults net.old listener) (W.faults net.new listener) }
         ensures watching { Watching self.old.board self.new.board self.new.connections result }
     {
@@ -190,14 +199,14 @@ impl<'a> Proxy<'a> {
         scratch: &mut [u8],
     ) -> Result<(), ServeError>
         requires scratch { length scratch.old ≡ CAPACITY }
-        requires ready_client { IsTrue (is_within told.client (W.ready net.old (client_of number))) }
-        requires ready_target { IsTrue (is_within told.target (W.ready net.old (target_of number))) }
+        requires ready_client { IsTrue (is_within told.client (W.ready net.old (client_at number).number)) }
+        requires ready_target { IsTrue (is_within told.target (W.ready net.old (target_at number).number)) }
         requires served { AreServed (W.link net.old) (W.place net.old) self.old.connections }
         requires watched { WatchesAll self.old.board self.old.connections }
         ensures serving { Serving W.Way net.old net.new self.old.connections self.new.connections }
         ensures listens { W.place net.new listener ≡ W.place net.old listener }
         ensures port { self.new.port ≡ self.old.port }
-        ensures ready { (c : ChanNo) → c ≢ client_of number → c ≢ target_of number → W.ready net.new c
+        ensures ready { (c : ChanNo) → c ≢ (client_at number).number → c ≢ (target_at number).number → W.ready net.new c
             ≡ W.ready net.old c }
         ensures cause { result ≢ Err NetFault }
         ensures watching { Watching self.old.board self.new.board self.new.connections result }
@@ -211,12 +220,9 @@ impl<'a> Proxy<'a> {
         }
     }
 
-    // Does what a channel was told ready for: where it is a client's link, also what its target's link was told, if
-    // that comes next.
-    fn serve_told<R: Wait, N, W: Way<N>>(
+    // Does what a link was told ready for: where it is a client's, also what its target's was told, if that comes next.
+    fn serve_told<N, W: Way<N>>(
         &mut self,
-        rt: &R,
-        alloc: Global,
         way: &mut W,
         net: &mut N,
         told: (ChanNo, Ops),
@@ -224,22 +230,20 @@ impl<'a> Proxy<'a> {
         scratch: &mut [u8],
     ) -> Result<(), ServeError>
         requires scratch { length scratch.old ≡ CAPACITY }
+        requires link { 1 ≤ told.0.0 }
         requires ready { IsTrue (is_within told.1 (W.ready net.old told.0)) }
         requires ready_next { IsTrue (is_within next.1 (W.ready net.old next.0)) }
-        requires listens { ListensAt self.old.port (W.place net.old listener).standing }
         requires served { AreServed (W.link net.old) (W.place net.old) self.old.connections }
         requires watched { WatchesAll self.old.board self.old.connections }
         ensures serving { Serving W.Way net.old net.new self.old.connections self.new.connections }
         ensures listens { W.place net.new listener ≡ W.place net.old listener }
         ensures port { self.new.port ≡ self.old.port }
         ensures ready { (c : ChanNo) → channel_after told.0 ≤ c.0 → W.ready net.new c ≡ W.ready net.old c }
-        ensures cause { result ≡ Err NetFault → Rose (W.faults net.old listener) (W.faults net.new listener) }
+        ensures accepts { W.ready net.new listener.number ≡ W.ready net.old listener.number }
+        ensures cause { result ≢ Err NetFault }
         ensures watching { Watching self.old.board self.new.board self.new.connections result }
     {
         let (chan, ops) = told;
-        if chan.0 == 0 {
-            return self.accept_told(rt, alloc, way, net, ops);
-        }
         let number = number_of(chan);
         if chan.0 % 2 == 0 {
             let told = ToldOps {
@@ -262,8 +266,44 @@ impl<'a> Proxy<'a> {
         }
     }
 
-    // Does what a selection told: serves each connection once, with what was told first of each of its links. A link
-    // told of twice may no longer be ready the second time; if it is, the next selection tells of it again.
+    // Does what a selection told of links: serves each connection once, with what was told first of each of its links. A
+    // link told of twice may no longer be ready the second time; if it is, the next selection tells of it again.
+    fn serve_links<N, W: Way<N>>(
+        &mut self,
+        way: &mut W,
+        net: &mut N,
+        told: &[(ChanNo, Ops)],
+        scratch: &mut [u8],
+    ) -> Result<(), ServeError>
+        requires scratch { length scratch.old ≡ CAPACITY }
+        requires ready { AreReady (W.ready net.old) told.now }
+        requires ordered { AreOrdered told.now }
+        requires served { AreServed (W.link net.old) (W.place net.old) self.old.connections }
+        requires watched { WatchesAll self.old.board self.old.connections }
+        ensures serving { Serving W.Way net.old net.new self.old.connections self.new.connections }
+        ensures listens { W.place net.new listener ≡ W.place net.old listener }
+        ensures port { self.new.port ≡ self.old.port }
+        ensures accepts { W.ready net.new listener.number ≡ W.ready net.old listener.number }
+        ensures cause { result ≢ Err NetFault }
+        ensures watching { Watching self.old.board self.new.board self.new.connections result }
+    {
+        let mut unserved = 1;
+        for index in 0..told.len() {
+            let one = told[index];
+            if (one.0.0 as u64) < unserved {
+                continue;
+            }
+            let next = told[(index + 1).min(told.len() - 1)];
+            unserved = channel_after(one.0);
+            let served = self.serve_told(way, net, one, next, scratch);
+            if served.is_err() {
+                return served;
+            }
+        }
+        Ok(())
+    }
+
+    // Does what a selection told: serves the links, and then accepts. The listener comes first in what was told.
     fn serve_all<R: Wait, N, W: Way<N>>(
         &mut self,
         rt: &R,
@@ -285,20 +325,12 @@ impl<'a> Proxy<'a> {
         ensures cause { result ≡ Err NetFault → Rose (W.faults net.old listener) (W.faults net.new listener) }
         ensures watching { Watching self.old.board self.new.board self.new.connections result }
     {
-        let mut unserved = 0;
-        for index in 0..told.len() {
-            let one = told[index];
-            if (one.0.0 as u64) < unserved {
-                continue;
-            }
-            let next = told[(index + 1).min(told.len() - 1)];
-            unserved = channel_after(one.0);
-            let served = self.serve_told(rt, alloc, way, net, one, next, scratch);
-            if served.is_err() {
-                return served;
-            }
+        let served = self.serve_links(way, net, told, scratch);
+        if served.is_err() {
+            return served;
         }
-        Ok(())
+        let ops = told_of_listener(told);
+        self.accept_told(rt, alloc, way, net, ops)
     }
 
     // One selection.
@@ -333,7 +365,7 @@ impl<'a> Proxy<'a> {
         &mut self,
         way: &mut W,
         net: &mut N,
-        chan: ChanNo,
+        chan: ChanId,
         scratch: &mut [u8],
     ) -> Result<(), ServeError>
         requires scratch { length scratch.old ≡ CAPACITY }
@@ -345,10 +377,10 @@ impl<'a> Proxy<'a> {
         ensures cause { result ≢ Err NetFault }
         ensures watching { Watching self.old.board self.new.board self.new.connections result }
     {
-        if chan.0 == 0 {
+        if chan.number.0 == 0 {
             return Ok(());
         }
-        let number = number_of(chan);
+        let number = number_of(chan.number);
         match self.connections.begin(way, net, &mut self.board, number) {
             Ok(()) => self.serve_connection(way, net, number, ToldOps::NOTHING, scratch),
             Err(Refused) => Err(ServeError::Memory),
@@ -537,7 +569,7 @@ impl<'a> Proxy<'a> {
         requires served { AreServed (W.link net.old) (W.place net.old) self.now.connections }
         requires listens { ListensAt self.now.port (W.place net.old listener).standing }
         ensures quiet { IsQuiet W.Way net.old net.new }
-        ensures vacant { (c : ChanNo) → IsVacant (W.place net.new c).standing }
+        ensures vacant { (c : ChanId) → IsVacant (W.place net.new c).standing }
     {
         self.connections.close_all(way, net);
         self.close_listener(way, net);

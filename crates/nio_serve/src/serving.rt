@@ -1,17 +1,15 @@
 //! Serving a plan.
 ghost use Rattle.std.specs.Prelude.{◌≡◌, ◌+◌, ◌*◌, ◌≤◌, IfOk, OnOk};
-ghost use Rattle.nio_base.specs.declared.numbers.ChanNo.{ChanNo};
-ghost use Rattle.nio_link.specs.Links.{IsUnused};
-ghost use Rattle.nio_link.specs.Places.{unused};
+ghost use Rattle.nio_link.specs.Nets.{view_of};
 ghost use Rattle.nio_relay.specs.Plan.{IsServable};
 ghost use Rattle.nio_words.specs.Passes.{IsFirstPass};
-ghost use Rattle.nio_serve.specs.Board.{IsSameSeat};
-ghost use Rattle.nio_serve.specs.Serving.{AreNumbered, LeavesNothing, NoneRose, RelaysBytes, Serves, ServesAllOr};
+ghost use Rattle.nio_board.specs.Board.{IsSameSeat};
+ghost use Rattle.nio_serve.specs.Serving.{IsFresh, Serves};
 
-use crate::board::{Board, Refused};
 use crate::proxy::{LISTENER, Proxy};
 use crate::way::Way;
 use nio_base::{CallerNo, Limits};
+use nio_board::{Board, Refused};
 use nio_relay::{ProxyPlan, Served};
 use nio_words::{Pass, Words};
 use std::alloc::Global;
@@ -64,15 +62,8 @@ pub fn serve<R: Wait, N, W: Way<N>>(
     plan: ProxyPlan,
 ) -> Result<Served, ServeError>
     requires plan { IsServable plan }
-    requires fresh { (c : ChanNo) → IsUnused (W.link net.old c) }
-    requires unasked { (c : ChanNo) → W.place net.old c ≡ unused }
-    ensures serves { Serves plan (W.link net.new) (W.place net.new) (W.faults net.old) (W.faults net.new)
-        (W.poll_faults net.old) (W.poll_faults net.new) result }
-    ensures relays { RelaysBytes (W.link net.new) }
-    ensures leaves { LeavesNothing plan (W.link net.new) (W.place net.new) }
-    ensures accepts { AreNumbered plan.conns (W.accepted net.old) (W.accepted net.new) result }
-    ensures complete { NoneRose (W.faults net.old) (W.faults net.new) (W.poll_faults net.old) (W.poll_faults net.new)
-        → ServesAllOr plan.conns (W.link net.new) result }
+    requires fresh { IsFresh (view_of W.Way net.old) }
+    ensures { Serves plan (view_of W.Way net.old) (view_of W.Way net.new) result }
 {
     let Ok((words, pass)) = Words::make(alloc, LIMITS) else {
         return Err(ServeError::Memory);
@@ -85,8 +76,8 @@ pub fn serve<R: Wait, N, W: Way<N>>(
 }
 
 /// `serve` over a board on which no channel is registered yet, which it gives back. The board's channels are numbered
-/// as the net's: 0 is the listener, and 2k + 1 and 2k + 2 are the links of connection k, counted from 0 in the order of
-/// the accepts. At every end no other channel was registered, and where the plan was served, each of these was.
+/// as the net's. At every end no more channels were registered than a listener and two links for each connection of the
+/// plan, and where the plan was served, so many were.
 pub fn serve_on<'a, R: Wait, N, W: Way<N>>(
     rt: &R,
     alloc: Global,
@@ -96,16 +87,9 @@ pub fn serve_on<'a, R: Wait, N, W: Way<N>>(
     plan: ProxyPlan,
 ) -> (Result<Served, ServeError>, Board<'a>)
     requires plan { IsServable plan }
-    requires fresh { (c : ChanNo) → IsUnused (W.link net.old c) }
-    requires unasked { (c : ChanNo) → W.place net.old c ≡ unused }
+    requires fresh { IsFresh (view_of W.Way net.old) }
     requires unregistered { board.registered ≡ 0 }
-    ensures serves { Serves plan (W.link net.new) (W.place net.new) (W.faults net.old) (W.faults net.new)
-        (W.poll_faults net.old) (W.poll_faults net.new) result.0 }
-    ensures relays { RelaysBytes (W.link net.new) }
-    ensures leaves { LeavesNothing plan (W.link net.new) (W.place net.new) }
-    ensures accepts { AreNumbered plan.conns (W.accepted net.old) (W.accepted net.new) result.0 }
-    ensures complete { NoneRose (W.faults net.old) (W.faults net.new) (W.poll_faults net.old) (W.poll_faults net.new)
-        → ServesAllOr plan.conns (W.link net.new) result.0 }
+    ensures serves { Serves plan (view_of W.Way net.old) (view_of W.Way net.new) result.0 }
     ensures seat { IsSameSeat board.entry result.1 }
     ensures registered { OnOk result.0 (result.1.registered ≡ 2 * plan.conns + 1) }
     ensures within { result.1.registered ≤ 2 * plan.conns + 1 }

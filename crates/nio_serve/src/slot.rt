@@ -2,39 +2,41 @@
 ghost use Rattle.std.specs.Prelude.{◌≡◌, ◌≢◌, ◌+◌, ◌≤◌, ◌⊎◌, ◌↔◌, if◌then◌else◌, Some, IfOk, IsErr, IsTrue, IsFalse};
 ghost use Rattle.std.specs.Prelude.{OnErr, OnOk, length};
 ghost use Rattle.nio_base.specs.declared.numbers.Addr.{Addr};
+ghost use Rattle.nio_base.specs.declared.numbers.ChanId.{ChanId};
 ghost use Rattle.nio_base.specs.declared.numbers.ChanNo.{ChanNo};
 ghost use Rattle.nio_bytes.specs.Cause.{Rose};
 ghost use Rattle.nio_link.specs.Links.{IsUnused, Link};
-ghost use Rattle.nio_link.specs.Places.{unused, IsVacant, place_after_close};
+ghost use Rattle.nio_link.specs.Places.{never_asked, IsFree, IsVacant, place_after_close};
 ghost use Rattle.nio_link.specs.declared.place.Place.{Place};
 ghost use Rattle.nio_link.specs.declared.place.Role.{Role};
 ghost use Rattle.nio_link.specs.declared.place.Role.TheVariants as role;
 ghost use Rattle.nio_link.specs.declared.place.Standing.TheVariants.{Connecting, Linked};
 ghost use Rattle.nio_relay.specs.Flow.{fresh, IsLawful};
 ghost use Rattle.nio_base.specs.Ops.{is_within};
-ghost use Rattle.nio_serve.specs.Board.{IsSameBoard, IsSameSeat};
-ghost use Rattle.nio_serve.specs.Nets.{Begins, IsQuiet, Works};
+ghost use Rattle.nio_board.specs.Board.{IsSameBoard, IsSameSeat};
+ghost use Rattle.nio_serve.specs.Nets.{AreApart, Begins, IsQuiet, Works};
 ghost use Rattle.nio_serve.specs.Passing.{BothSame, OneRose};
 ghost use Rattle.nio_serve.specs.Relaying.{IsAsked, stage_after, standing_after_finish, target_role};
 ghost use Rattle.nio_serve.specs.Serving.{listener};
 ghost use Rattle.nio_serve.specs.declared.slot.Slot.TheVariants.{Live};
 ghost use Rattle.nio_serve.specs.declared.slot.Stage.TheVariants as stage;
 ghost use Rattle.nio_serve.specs.Slots.{IsBroken, IsRelaying, IsSlot, IsSlotOf, HasRoles};
-ghost use Rattle.nio_serve.specs.Slots.{has_ended, has_faulted, was_accepted};
+ghost use Rattle.nio_serve.specs.Slots.{has_ended, has_faulted};
 
-use crate::board::{Board, Port, Refused};
 use crate::link::{Flows, Links, ToldOps, serve_links};
 use crate::spare::Spare;
 use crate::way::Way;
-use nio_base::{Addr, ChanNo, Kind, Ops};
+use nio_base::{Addr, ChanId, Kind, Ops};
+use nio_board::{Board, Port, Refused};
 use nio_link::Failed;
 use nio_relay::{CAPACITY, Direction};
 use std::alloc::Global;
 use std::sync::Wait;
 
-/// A link as the table has it: its channel is watched for these operations.
+/// A link, and how the table has it: its port is watched for these operations.
 #[derive(Clone, Copy)]
 pub(crate) struct End {
+    pub link: ChanId,
     pub port: Port,
     pub interest: Ops,
 }
@@ -84,22 +86,23 @@ pub(crate) enum Slot {
     Faulted,
     /// There was no memory to relay it, and its client's link was closed.
     Dropped,
-    /// Its client couldn't be accepted.
-    Unaccepted,
 }
 
 // Goes on connecting the target where it was told ready for that.
-fn connect<N, W: Way<N>>(way: &mut W, net: &mut N, target: ChanNo, ops: Ops) -> Result<bool, Failed>
-    requires ready { IsTrue (is_within ops (W.ready net.old target)) }
+fn connect<N, W: Way<N>>(way: &mut W, net: &mut N, target: ChanId, ops: Ops) -> Result<bool, Failed>
+    requires ready { IsTrue (is_within ops (W.ready net.old target.number)) }
     requires stands { (W.place net.old target).standing ≡ Connecting }
-    ensures links { (c : ChanNo) → W.link net.new c ≡ W.link net.old c }
+    ensures links { (c : ChanId) → W.link net.new c ≡ W.link net.old c }
     ensures stands { (W.place net.new target).standing ≡ standing_after_finish result }
     ensures work { Works W.Way target target net.old net.new }
     ensures cause { OnErr result (Rose (W.faults net.old target) (W.faults net.new target)) }
     ensures calm { OnOk result (W.faults net.new target ≡ W.faults net.old target) }
 {
     if Ops::CONNECT.within(ops) {
-        way.finish_connect(net, target)
+        match way.finish_connect(net, target) {
+            Some(answer) => answer,
+            None => Ok(false),
+        }
     } else {
         Ok(false)
     }
@@ -117,9 +120,9 @@ impl Relay {
         scratch: &mut [u8],
     ) -> Result<(), Failed>
         requires scratch { length scratch.old ≡ CAPACITY }
-        requires apart { links.client ≢ links.target }
-        requires ready_client { IsTrue (is_within told.client (W.ready net.old links.client)) }
-        requires ready_target { IsTrue (is_within told.target (W.ready net.old links.target)) }
+        requires apart { AreApart links.client links.target }
+        requires ready_client { IsTrue (is_within told.client (W.ready net.old links.client.number)) }
+        requires ready_target { IsTrue (is_within told.target (W.ready net.old links.target.number)) }
         requires relaying { IsRelaying self.old.stage self.old.there self.old.back (W.link net.old links.client)
             (W.link net.old links.target) (W.place net.old links.client) (W.place net.old links.target) }
         ensures relaying { OnOk result (IsRelaying self.new.stage self.new.there self.new.back
@@ -155,9 +158,11 @@ impl Relay {
 
 /// Closes two links.
 pub(crate) fn close_links<N, W: Way<N>>(way: &mut W, net: &mut N, links: Links)
-    requires apart { links.client ≢ links.target }
+    requires apart { AreApart links.client links.target }
     ensures quiet { IsQuiet W.Way net.old net.new }
-    ensures places { (c : ChanNo) → c ≢ links.client → c ≢ links.target → W.place net.new c ≡ W.place net.old c }
+    ensures ready { (c : ChanNo) → c ≢ links.client.number → c ≢ links.target.number → W.ready net.new c
+        ≡ W.ready net.old c }
+    ensures places { (c : ChanId) → c ≢ links.client → c ≢ links.target → W.place net.new c ≡ W.place net.old c }
     ensures client { W.place net.new links.client ≡ place_after_close (W.place net.old links.client) }
     ensures target { IsVacant (W.place net.new links.target).standing }
 {
@@ -174,9 +179,11 @@ fn hang_up<N, W: Way<N>>(
     links: Links,
     relay: Relay,
 )
-    requires apart { links.client ≢ links.target }
+    requires apart { AreApart links.client links.target }
     ensures quiet { IsQuiet W.Way net.old net.new }
-    ensures places { (c : ChanNo) → c ≢ links.client → c ≢ links.target → W.place net.new c ≡ W.place net.old c }
+    ensures ready { (c : ChanNo) → c ≢ links.client.number → c ≢ links.target.number → W.ready net.new c
+        ≡ W.ready net.old c }
+    ensures places { (c : ChanId) → c ≢ links.client → c ≢ links.target → W.place net.new c ≡ W.place net.old c }
     ensures client { W.place net.new links.client ≡ place_after_close (W.place net.old links.client) }
     ensures target { IsVacant (W.place net.new links.target).standing }
     ensures board { IsSameBoard board.old board.new }
@@ -214,7 +221,7 @@ fn settle<N, W: Way<N>>(
     relay: Relay,
     served: Result<(), Failed>,
 ) -> Slot
-    requires apart { links.client ≢ links.target }
+    requires apart { AreApart links.client links.target }
     requires there { IsLawful relay.there }
     requires back { IsLawful relay.back }
     requires asked { OnErr served (IsAsked relay.stage) }
@@ -225,10 +232,11 @@ fn settle<N, W: Way<N>>(
     ensures slot { IsSlot (Some result) (W.link net.new links.client) (W.link net.new links.target) (W.place net.new links.client)
         (W.place net.new links.target) }
     ensures roles { (to : Addr) (r s : Role) → HasRoles to (Some (Live relay)) r s → HasRoles to (Some result) r s }
-    ensures stands { IsTrue (was_accepted (Some result)) }
     ensures faulty { IsTrue (has_faulted (Some result)) ↔ IsErr served }
     ensures quiet { IsQuiet W.Way net.old net.new }
-    ensures places { (c : ChanNo) → c ≢ links.client → c ≢ links.target → W.place net.new c ≡ W.place net.old c }
+    ensures ready { (c : ChanNo) → c ≢ links.client.number → c ≢ links.target.number → W.ready net.new c
+        ≡ W.ready net.old c }
+    ensures places { (c : ChanId) → c ≢ links.client → c ≢ links.target → W.place net.new c ≡ W.place net.old c }
     ensures board { IsSameBoard board.old board.new }
 {
     if served.is_err() {
@@ -254,15 +262,14 @@ pub(crate) fn serve_relay<N, W: Way<N>>(
     scratch: &mut [u8],
 ) -> Slot
     requires scratch { length scratch.old ≡ CAPACITY }
-    requires apart { links.client ≢ links.target }
-    requires ready_client { IsTrue (is_within told.client (W.ready net.old links.client)) }
-    requires ready_target { IsTrue (is_within told.target (W.ready net.old links.target)) }
+    requires apart { AreApart links.client links.target }
+    requires ready_client { IsTrue (is_within told.client (W.ready net.old links.client.number)) }
+    requires ready_target { IsTrue (is_within told.target (W.ready net.old links.target.number)) }
     requires relaying { IsRelaying relay.stage relay.there relay.back (W.link net.old links.client)
         (W.link net.old links.target) (W.place net.old links.client) (W.place net.old links.target) }
     ensures slot { IsSlot (Some result) (W.link net.new links.client) (W.link net.new links.target) (W.place net.new links.client)
         (W.place net.new links.target) }
     ensures roles { (to : Addr) (r s : Role) → HasRoles to (Some (Live relay)) r s → HasRoles to (Some result) r s }
-    ensures stands { IsTrue (was_accepted (Some result)) }
     ensures faulty { IsTrue (has_faulted (Some result)) → OneRose (W.faults net.old) (W.faults net.new) links.client links.target }
     ensures calm { IsFalse (has_faulted (Some result)) → BothSame (W.faults net.old) (W.faults net.new) links.client links.target }
     ensures work { Works W.Way links.client links.target net.old net.new }
@@ -310,7 +317,7 @@ impl End {
     ) -> Result<(), Refused>
         ensures { IsSameBoard board.old board.new }
     {
-        let permitted = ops.meet(way.permits(self.port.chan));
+        let permitted = ops.meet(way.permits(self.link));
         if self.interest != permitted {
             board.set(self.port, permitted)?;
             self.interest = permitted;
@@ -356,12 +363,11 @@ impl Slot {
         ensures roles { (to : Addr) (r s : Role) → HasRoles to (Some self.old) r s → HasRoles to (Some self.new) r s }
         ensures ended { has_ended (Some self.new) ≡ has_ended (Some self.old) }
         ensures faulted { has_faulted (Some self.new) ≡ has_faulted (Some self.old) }
-        ensures stands { was_accepted (Some self.new) ≡ was_accepted (Some self.old) }
         ensures board { IsSameBoard board.old board.new }
     {
         match self {
             Slot::Live(relay) => relay.follow::<N, W>(way, board),
-            Slot::Clean | Slot::Faulted | Slot::Dropped | Slot::Unaccepted => Ok(()),
+            Slot::Clean | Slot::Faulted | Slot::Dropped => Ok(()),
         }
     }
 }
@@ -378,7 +384,7 @@ fn open_relay<R: Wait>(
     ensures back { IfOk result (λ relay. relay.back ≡ fresh) }
     ensures stage { IfOk result (λ relay. relay.stage ≡ stage.Accepted) }
     ensures seat { IsSameSeat board.old board.new }
-    ensures watched { OnOk result (board.new.registered ≡ links.target.0 + 1) }
+    ensures watched { OnOk result (board.new.registered ≡ links.target.number.0 + 1) }
     ensures within { board.new.registered ≤ board.old.registered + 2 }
 {
     let Ok(there) = spare.take(alloc) else {
@@ -387,18 +393,20 @@ fn open_relay<R: Wait>(
     let Ok(back) = spare.take(alloc) else {
         return Err(Refused);
     };
-    let client = board.watch(rt, links.client, Kind::Stream, Ops::NONE)?;
-    let target = board.watch(rt, links.target, Kind::Stream, Ops::NONE)?;
+    let client = board.watch(rt, links.client.number, Kind::Stream, Ops::NONE)?;
+    let target = board.watch(rt, links.target.number, Kind::Stream, Ops::NONE)?;
     Ok(Relay {
         there,
         back,
         stage: Stage::Accepted,
         flows: Flows::NEITHER,
         client: End {
+            link: links.client,
             port: client,
             interest: Ops::NONE,
         },
         target: End {
+            link: links.target,
             port: target,
             interest: Ops::NONE,
         },
@@ -416,13 +424,13 @@ fn connect_relay<N, W: Way<N>>(
     relay: Relay,
     to: Addr,
 ) -> Slot
-    requires apart { links.client ≢ links.target }
+    requires apart { AreApart links.client links.target }
     requires stage { relay.stage ≡ stage.Accepted }
+    requires free { IsFree (W.place net.old) links.target }
     requires slot { IsSlotOf to (Some (Live relay)) (W.link net.old links.client) (W.link net.old links.target)
         (W.place net.old links.client) (W.place net.old links.target) }
     ensures slot { IsSlotOf to (Some result) (W.link net.new links.client) (W.link net.new links.target) (W.place net.new links.client)
         (W.place net.new links.target) }
-    ensures stands { IsTrue (was_accepted (Some result)) }
     ensures faulty { IsTrue (has_faulted (Some result)) → Rose (W.faults net.old links.target) (W.faults net.new links.target) }
     ensures calm { IsFalse (has_faulted (Some result)) → W.faults net.new links.target ≡ W.faults net.old links.target }
     ensures begins { Begins W.Way links.client links.target net.old net.new }
@@ -453,12 +461,12 @@ pub(crate) fn begin_relay<N, W: Way<N>>(
     relay: Relay,
     to: Addr,
 ) -> Slot
-    requires apart { links.client ≢ links.target }
+    requires apart { AreApart links.client links.target }
+    requires free { relay.stage ≡ stage.Accepted → IsFree (W.place net.old) links.target }
     requires slot { IsSlotOf to (Some (Live relay)) (W.link net.old links.client) (W.link net.old links.target)
         (W.place net.old links.client) (W.place net.old links.target) }
     ensures slot { IsSlotOf to (Some result) (W.link net.new links.client) (W.link net.new links.target) (W.place net.new links.client)
         (W.place net.new links.target) }
-    ensures stands { IsTrue (was_accepted (Some result)) }
     ensures faulty { IsTrue (has_faulted (Some result)) → Rose (W.faults net.old links.target) (W.faults net.new links.target) }
     ensures calm { IsFalse (has_faulted (Some result)) → W.faults net.new links.target ≡ W.faults net.old links.target }
     ensures begins { Begins W.Way links.client links.target net.old net.new }
@@ -482,20 +490,19 @@ pub(crate) fn take_on<R: Wait, N, W: Way<N>>(
     spare: &mut Spare,
     links: Links,
 ) -> (Slot, Result<(), Refused>)
-    requires apart { links.client ≢ links.target }
+    requires apart { AreApart links.client links.target }
     requires client_unused { IsUnused (W.link net.old links.client) }
     requires target_unused { IsUnused (W.link net.old links.target) }
     requires accepted { W.place net.old links.client ≡ record { role = role.Accepted listener; standing = Linked } }
-    requires unasked { W.place net.old links.target ≡ unused }
+    requires unasked { W.place net.old links.target ≡ never_asked }
     ensures slot { (to : Addr) → IsSlotOf to (Some result.0) (W.link net.new links.client) (W.link net.new links.target)
         (W.place net.new links.client) (W.place net.new links.target) }
-    ensures stands { IsTrue (was_accepted (Some result.0)) }
     ensures unfaulted { IsFalse (has_faulted (Some result.0)) }
     ensures calm { W.faults net.new links.target ≡ W.faults net.old links.target }
     ensures begins { Begins W.Way links.client links.target net.old net.new }
     ensures accepted { W.accepted net.new ≡ W.accepted net.old }
     ensures seat { IsSameSeat board.old board.new }
-    ensures watched { OnOk result.1 (board.new.registered ≡ links.target.0 + 1) }
+    ensures watched { OnOk result.1 (board.new.registered ≡ links.target.number.0 + 1) }
     ensures within { board.new.registered ≤ board.old.registered + 2 }
 {
     match open_relay(rt, alloc, board, spare, links) {

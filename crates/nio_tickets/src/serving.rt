@@ -1,13 +1,11 @@
 //! Serving a plan by operations that have tickets.
 ghost use Rattle.std.specs.Prelude.{◌≡◌, ◌+◌, ◌*◌, IfOk, IsSomeAnd};
-ghost use Rattle.nio_base.specs.declared.numbers.ChanNo.{ChanNo};
-ghost use Rattle.nio_link.specs.Links.{IsUnused};
-ghost use Rattle.nio_link.specs.Places.{unused};
+ghost use Rattle.nio_link.specs.Nets.{view_of};
 ghost use Rattle.nio_jobs.specs.ByJobs.{IsNew, exchange_of};
 ghost use Rattle.nio_relay.specs.Plan.{IsServable};
 ghost use Rattle.nio_tickets.specs.Answers.{serve_answer_of};
 ghost use Rattle.nio_tickets.specs.Handling.{opened};
-ghost use Rattle.nio_serve.specs.Serving.{AreNumbered, LeavesNothing, NoneRose, RelaysBytes, Serves, ServesAllOr};
+ghost use Rattle.nio_serve.specs.Serving.{IsFresh, Serves};
 
 use crate::clerk::Clerk;
 use futures::task::{Doorbell, Solo};
@@ -94,15 +92,8 @@ pub fn serve_future<R, N: Net>(
 where
     R: Wait + RandomSource + AllocGlobal,
     requires plan { IsServable plan }
-    requires fresh { (c : ChanNo) → IsUnused (N.link net.old c) }
-    requires unasked { (c : ChanNo) → N.place net.old c ≡ unused }
-    ensures serves { Serves plan (N.link net.new) (N.place net.new) (N.faults net.old) (N.faults net.new)
-        (N.poll_faults net.old) (N.poll_faults net.new) (serve_answer_of result) }
-    ensures relays { RelaysBytes (N.link net.new) }
-    ensures leaves { LeavesNothing plan (N.link net.new) (N.place net.new) }
-    ensures accepts { AreNumbered plan.conns (N.accepted net.old) (N.accepted net.new) (serve_answer_of result) }
-    ensures complete { NoneRose (N.faults net.old) (N.faults net.new) (N.poll_faults net.old) (N.poll_faults net.new)
-        → ServesAllOr plan.conns (N.link net.new) (serve_answer_of result) }
+    requires fresh { IsFresh (view_of N.Net net.old) }
+    ensures { Serves plan (view_of N.Net net.old) (view_of N.Net net.new) (serve_answer_of result) }
 {
     // No thread waits for a task there, so none sleeps at the doorbell.
     let Ok(executor) = Solo::new(rt, Doorbell::spinning()) else {

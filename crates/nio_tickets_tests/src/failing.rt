@@ -1,11 +1,11 @@
 //! The proxy by tickets over nets that fail: each of the first polls, an accept, a connect and a write.
 ghost use Rattle.std.specs.Prelude.{◌≡◌, IfOk};
-ghost use Rattle.nio_base.specs.declared.numbers.ChanNo.{ChanNo};
+ghost use Rattle.nio_base.specs.declared.numbers.ChanId.{ChanId};
 ghost use Rattle.nio_link.specs.Links.{IsUnused};
-ghost use Rattle.nio_link.specs.Places.{places_after, unused};
+ghost use Rattle.nio_link.specs.Places.{places_after, never_asked};
 ghost use Rattle.nio_link.specs.Slots.{carried_at};
 
-use nio_base::{Addr, ChanNo};
+use nio_base::{Addr, ChanId, ChanNo};
 use nio_link::{JobNet, MemoryNet, NetPlan, PeerPlan};
 use nio_relay::{ProxyPlan, Served};
 use nio_tickets::{FutureError, serve_future};
@@ -92,8 +92,8 @@ fn sender(
 
 /// Two such connections.
 fn net_of_two(alloc: Global, row: &Row) -> Result<MemoryNet, AllocError>
-    ensures fresh { IfOk result (λ net. (c : ChanNo) → IsUnused (carried_at net.slots c)) }
-    ensures unasked { IfOk result (λ net. (c : ChanNo) → places_after net.changes c ≡ unused) }
+    ensures fresh { IfOk result (λ net. (c : ChanId) → IsUnused (carried_at net.slots net.past c)) }
+    ensures unasked { IfOk result (λ net. (c : ChanId) → places_after net.changes c ≡ never_asked) }
 {
     let mut peers = Vec::new(alloc);
     peers.push(sender(alloc, row.fail_connect, Some(10))?)?;
@@ -108,8 +108,13 @@ fn net_of_two(alloc: Global, row: &Row) -> Result<MemoryNet, AllocError>
     )
 }
 
+/// The first channel of a number.
+fn channel(number: u32) -> ChanId {
+    ChanId::first(ChanNo(number))
+}
+
 /// Whether what was put on each link of this connection begins what was read from the other.
-fn is_begun(net: &MemoryNet, client: ChanNo, target: ChanNo) -> bool {
+fn is_begun(net: &MemoryNet, client: ChanId, target: ChanId) -> bool {
     net.got_bytes(client).starts_with(net.put_bytes(target))
         && net.got_bytes(target).starts_with(net.put_bytes(client))
 }
@@ -123,7 +128,7 @@ where
     let (name, poll) = (row.name, row.fail_poll);
     assert_eq!(rt; served, row.served, "{name} {poll:?}");
     let net = jobs.into_net();
-    let begun = is_begun(&net, ChanNo(1), ChanNo(2)) && is_begun(&net, ChanNo(3), ChanNo(4));
+    let begun = is_begun(&net, channel(1), channel(2)) && is_begun(&net, channel(3), channel(4));
     assert!(rt; begun, "{name} {poll:?}");
     Ok(())
 }

@@ -1,11 +1,11 @@
 //! Which bytes arrive at both ends, and how the proxy ends.
 ghost use Rattle.std.specs.Prelude.{◌≡◌, IfOk};
-ghost use Rattle.nio_base.specs.declared.numbers.ChanNo.{ChanNo};
+ghost use Rattle.nio_base.specs.declared.numbers.ChanId.{ChanId};
 ghost use Rattle.nio_link.specs.Links.{IsUnused};
-ghost use Rattle.nio_link.specs.Places.{places_after, unused};
+ghost use Rattle.nio_link.specs.Places.{places_after, never_asked};
 ghost use Rattle.nio_link.specs.Slots.{carried_at};
 
-use nio_base::{Addr, ChanNo};
+use nio_base::{Addr, ChanId, ChanNo};
 use nio_link::{JobNet, MemoryNet, NetPlan, PeerPlan};
 use nio_relay::{ProxyPlan, Served};
 use nio_tickets::serve_future;
@@ -35,8 +35,8 @@ fn peer(alloc: Global, fail_write_after: Option<u64>) -> Result<PeerPlan, AllocE
 
 /// Two connections, of which the second target takes 10 bytes.
 fn net_of_two(alloc: Global) -> Result<MemoryNet, AllocError>
-    ensures fresh { IfOk result (λ net. (c : ChanNo) → IsUnused (carried_at net.slots c)) }
-    ensures unasked { IfOk result (λ net. (c : ChanNo) → places_after net.changes c ≡ unused) }
+    ensures fresh { IfOk result (λ net. (c : ChanId) → IsUnused (carried_at net.slots net.past c)) }
+    ensures unasked { IfOk result (λ net. (c : ChanId) → places_after net.changes c ≡ never_asked) }
 {
     let mut peers = Vec::new(alloc);
     peers.push(peer(alloc, None)?)?;
@@ -49,6 +49,11 @@ fn net_of_two(alloc: Global) -> Result<MemoryNet, AllocError>
             fail_accept: None,
         },
     )
+}
+
+/// The first channel of a number.
+fn channel(number: u32) -> ChanId {
+    ChanId::first(ChanNo(number))
 }
 
 #[test]
@@ -66,9 +71,9 @@ fn relays_two(rt: HostRuntime) -> Result<(), Fail> {
     };
     assert_eq!(rt; served, Ok(one_failed));
     let net = jobs.into_net();
-    assert_eq!(rt; net.put_bytes(ChanNo(2)).len(), 20_000);
-    assert_eq!(rt; net.put_bytes(ChanNo(1)).len(), 1);
-    assert!(rt; net.is_shut(ChanNo(1)) && net.is_shut(ChanNo(2)));
-    assert_eq!(rt; net.put_bytes(ChanNo(4)).len(), 10);
+    assert_eq!(rt; net.put_bytes(channel(2)).len(), 20_000);
+    assert_eq!(rt; net.put_bytes(channel(1)).len(), 1);
+    assert!(rt; net.is_shut(channel(1)) && net.is_shut(channel(2)));
+    assert_eq!(rt; net.put_bytes(channel(4)).len(), 10);
     Ok(())
 }

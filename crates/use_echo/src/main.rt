@@ -1,8 +1,9 @@
-//! An echo server over sockets, with one selector. It serves two connections, which this program makes itself.
+//! An echo server over sockets, with one selector. It serves two connections, which this program makes itself; its loop
+//! sets no bound on how many.
 #![tactic(auto)]
 
 use nio::net::{ByteBuffer, CheckedNet, Got, MioNet, Net};
-use nio::{Addr, Caller, ChanId, ChanNo, Kind, Ops, USUAL_LIMITS, Words};
+use nio::{Addr, Caller, ChanId, Kind, Ops, USUAL_LIMITS, Words};
 use std::collections::BTreeMap;
 use std::io::{Result, Write, read_to_string};
 use std::net::{OpenListener, OpenStream, Shutdown, TcpListener, TcpStream};
@@ -17,7 +18,7 @@ fn main(rt: HostRuntime) -> anyhow::Result<()> {
     caller.register_non_blocking(&rt, sel, listener, Ops::ACCEPT, 0)?;
     let ip = [127, 0, 0, 1];
     let port = TcpListener::bind(&rt, "127.0.0.1:0")?.local_addr()?.port();
-    net.listen(listener.number, Addr { ip, port })?;
+    net.listen(listener, Addr { ip, port })?;
     let clients = (send(&rt, port, "hello")?, send(&rt, port, "again")?);
 
     // What came on each link and isn't written back yet.
@@ -34,21 +35,23 @@ fn main(rt: HostRuntime) -> anyhow::Result<()> {
             caller.select(&rt, rt.alloc(), sel, &mut net)?;
             continue;
         };
-        // A net has one channel of each number, the first: so this one lasts for 1,023 connections.
-        let chan = ChanId::first(number);
+        // A poll tells numbers; what was closed in this round stands no more.
+        let Some(chan) = net.channel_at(number) else {
+            continue;
+        };
         let Some(key) = caller.take_selected(chan, sel) else {
             continue;
         };
         if let Some(buffer) = buffers.get_mut(&number.0) {
-            if let Some(ops) = echo(&mut net, number, buffer) {
+            if let Some(ops) = echo(&mut net, chan, buffer) {
                 caller.set_interest(key, ops)?;
             } else {
                 buffers.remove(&number.0);
-                net.close(number);
+                net.close(chan);
                 caller.close_channel(chan);
                 open -= 1;
             }
-        } else if net.accept(listener.number, link.number)? {
+        } else if net.accept(listener, link)? {
             buffers.insert(link.number.0, ByteBuffer::with_capacity(rt.alloc(), 512)?)?;
             caller.register_non_blocking(&rt, sel, link, Ops::READ, 0)?;
             link = caller.open_channel(Kind::Stream)?;
@@ -63,7 +66,7 @@ fn main(rt: HostRuntime) -> anyhow::Result<()> {
 /// Reads from a link, or writes what came back. Answers what it is to be ready for next; none at its end or a fault.
 fn echo<N: Net + Drop>(
     net: &mut CheckedNet<N>,
-    link: ChanNo,
+    link: ChanId,
     buffer: &mut ByteBuffer,
 ) -> Option<Ops> {
     if !buffer.is_empty() {

@@ -1,35 +1,34 @@
 //! The net of packets in memory.
 ghost use Rattle.std.specs.Prelude.{◌≡◌, ◌≢◌, ◌↔◌, ◌⊎◌, ◌<◌, ◌≤◌, [], ◌∷◌, ◌++◌, true, false, Ok, Err, IfOk};
-ghost use Rattle.std.specs.Prelude.{IsErr, OnErr, OnOk, IsOk, IsTrue, Some, length, option_map, refl};
+ghost use Rattle.std.specs.Prelude.{OnErr, OnOk, IsOk, IsTrue, Some, length, option_map, refl};
 ghost use Rattle.std.specs.List.{slice_get};
+ghost use Rattle.nio_base.specs.declared.numbers.ChanId.{ChanId};
 ghost use Rattle.nio_base.specs.declared.numbers.ChanNo.{ChanNo};
 ghost use Rattle.nio_bytes.specs.Calls.{FailsNext};
-ghost use Rattle.nio_bytes.specs.Cause.{HasCause};
-ghost use Rattle.nio_link.specs.Links.{IsSameBut};
 ghost use Rattle.nio_link.specs.MemoryNet.{answer_of, faulted_after, if_some, times};
 ghost use Rattle.nio_link.specs.NetPlans.{numbers_of};
 ghost use Rattle.nio_poller.specs.Polls.{CountsFaults, AddsPoll, told_of_channel};
 ghost use Rattle.nio_poller.specs.declared.poller.PollError.TheVariants.{Fault, Memory};
 ghost use Rattle.nio_select.specs.InProgress.{poll_of};
-ghost use Rattle.nio_base.specs.Ops.{is_within};
-ghost use Rattle.nio_datagram.specs.Packets.{no_traffic, IsCame, after_receive as traffic_after_receive};
-ghost use Rattle.nio_datagram.specs.Packets.{after_send as traffic_after_send};
-ghost use Rattle.nio_datagram.specs.Places.{IsBound, place_after_bind, place_after_close};
-ghost use Rattle.nio_datagram.specs.Readiness.{ready_after_receive, ready_after_send};
-ghost use Rattle.nio_datagram.specs.Sides.{is_bound, receive_answer, receive_buffer, side_ready};
+ghost use Rattle.nio_datagram.specs.Nets.{MayReceive, MaySend, Binds, Receives, Sends, Closes};
+ghost use Rattle.nio_datagram.specs.Packets.{no_traffic, IsCame};
+ghost use Rattle.nio_datagram.specs.Places.{IsFree};
+ghost use Rattle.nio_datagram.specs.Sides.{receive_answer, receive_buffer, side_ready};
 ghost use Rattle.nio_datagram.specs.MemoryPackets.{side_at, planned, traffic_at, place_at, ready_told, polls_told};
-ghost use Rattle.nio_datagram.specs.MemoryPackets.{told_pairs, findings_after};
+ghost use Rattle.nio_datagram.specs.MemoryPackets.{told_pairs, findings_after, findings_closed, is_bound_at, can_bind};
 ghost use Rattle.nio_datagram.specs.MemoryPackets.{sides_after_bind, sides_after_receive, sides_after_send};
-ghost use Rattle.nio_datagram.specs.MemoryPackets.{sides_after_close, bind_answer_at, after_bind, after_receive};
+ghost use Rattle.nio_datagram.specs.MemoryPackets.{sides_after_close, after_bind, faulted_on, after_receive};
 ghost use Rattle.nio_datagram.specs.MemoryPackets.{after_sent, after_planned_send, after_lost_send, after_close};
-ghost use Rattle.nio_datagram.specs.MemoryPackets.{after_poll, after_lost_poll, KeepsPackets};
+ghost use Rattle.nio_datagram.specs.MemoryPackets.{after_poll, after_lost_poll, KeepsPackets, shown};
 ghost use Rattle.nio_datagram.specs.declared.memory.memory_packets.SendFailure.TheVariants as failure;
+ghost use Rattle.nio_datagram.specs.declared.memory.side.BindFailure.TheVariants as refusal;
 ghost use Rattle.nio_datagram.specs.declared.net.Place.TheVariants as place_is;
 
 use crate::memory::finding::Finding;
-use crate::memory::side::{SentPacket, Side};
+use crate::memory::side::{BindFailure, Side};
 use crate::net::{Came, LONGEST, PacketNet};
-use nio_base::{Addr, ChanNo, Ops};
+use crate::packet::SentPacket;
+use nio_base::{Addr, ChanId, ChanNo, Ops};
 use nio_bytes::Calls;
 use nio_history::Mode;
 use nio_link::Failed;
@@ -44,7 +43,7 @@ use thiserror::Error;
 /// Why a packet couldn't be sent in memory.
 #[derive(Clone, Copy, Debug, PartialEq, Eq, Error)]
 pub enum SendFailure {
-    /// No socket stands there, or this send was to fail.
+    /// No socket is bound there, or this send was to fail.
     #[error("the send failed")]
     Planned,
     /// There is no memory to keep the packet.
@@ -52,14 +51,15 @@ pub enum SendFailure {
     Memory,
 }
 
-/// A net of two channels, 0 and 1, whose packets are memory. A relay over it returns only where enough of the client's
+/// A net of the numbers 0 and 1, whose packets are memory. A number serves again, under a later serial, once its socket
+/// was closed: then those of its packets come that are left. A relay over it returns only where enough of the client's
 /// packets are planned, or a call fails or memory lacks.
 #[derive(Drop)]
 pub struct MemoryPackets {
     alloc: Global,
     sides: Vec<Side>,
     sends: Calls,
-    faulted: Trace<ChanNo>,
+    faulted: Trace<ChanId>,
     findings: Trace<Finding>,
 }
 
@@ -77,7 +77,7 @@ impl Model for MemoryPackets {
 }
 
 // Counts a failure of a call on this channel.
-fn count<T>(faulted: &mut Trace<ChanNo>, chan: ChanNo, outcome: &Result<T, Failed>)
+fn count<T>(faulted: &mut Trace<ChanId>, chan: ChanId, outcome: &Result<T, Failed>)
     ensures { faulted.new ≡ faulted_after outcome.now chan faulted.old }
 {
     if outcome.is_err() {
@@ -86,11 +86,20 @@ fn count<T>(faulted: &mut Trace<ChanNo>, chan: ChanNo, outcome: &Result<T, Faile
 }
 
 // Logs that a receive found no packet, where `is_early` says that it did.
-fn log(findings: &mut Trace<Finding>, chan: ChanNo, is_early: bool)
-    ensures { findings.new ≡ findings_after is_early chan 1 findings.old }
+fn log(findings: &mut Trace<Finding>, number: ChanNo, is_early: bool)
+    ensures { findings.new ≡ findings_after is_early number 1 findings.old }
 {
     if is_early {
-        findings.push(&Finding::NotReady(chan, Ops::READ));
+        findings.push(&Finding::NotReady(number, Ops::READ));
+    }
+}
+
+// Logs that what was told of a number is over, where a socket was bound there.
+fn log_closed(findings: &mut Trace<Finding>, number: ChanNo, was_bound: bool)
+    ensures { findings.new ≡ findings_closed was_bound number findings.old }
+{
+    if was_bound {
+        findings.push(&Finding::Forgotten(number));
     }
 }
 
@@ -104,72 +113,75 @@ fn numbers(alloc: Global, number: Option<u64>) -> Result<Vec<u64>, AllocError>
     Ok(list)
 }
 
-fn is_bound_at(sides: &[Side], chan: ChanNo) -> bool
-    ensures bound { result ≡ is_bound (place_at sides.now chan) }
-    ensures inside { IsTrue result → chan.0 < length sides.now }
+fn is_bound_at(sides: &[Side], chan: ChanId) -> bool
+    ensures bound { result ≡ is_bound_at sides.now chan }
+    ensures inside { IsTrue result → chan.number.0 < length sides.now }
 {
-    let at = chan.0 as usize;
-    at < sides.len() && sides[at].is_bound()
+    let at = chan.number.0 as usize;
+    at < sides.len() && sides[at].is_bound_as(chan.serial)
 }
 
-fn bind_at(sides: &mut [Side], chan: ChanNo, at: Addr) -> Result<(), Failed>
-    ensures answer { result ≡ bind_answer_at sides.old chan }
-    ensures after { sides.new ≡ sides_after_bind sides.old chan at }
+fn bind_at(alloc: Global, sides: &mut [Side], chan: ChanId, at: Addr) -> Result<(), BindFailure>
+    ensures fails { result ≢ Err refusal.Memory
+        → ((result ≡ Err refusal.NotFree) ↔ (can_bind sides.old chan ≡ false)) }
+    ensures free { IsOk result → can_bind sides.old chan ≡ true }
+    ensures ok { OnOk result (sides.new ≡ sides_after_bind sides.old chan at) }
+    ensures err { OnErr result (sides.new ≡ sides.old) }
 {
-    let place = chan.0 as usize;
+    let place = chan.number.0 as usize;
     if place >= sides.len() {
-        return Err(Failed);
+        return Err(BindFailure::NotFree);
     }
-    sides[place].bind(at)
+    sides[place].bind(alloc, chan.serial, at)
 }
 
-fn receive_at(sides: &mut [Side], chan: ChanNo, into: &mut [u8]) -> Result<Came, Failed>
+fn receive_at(sides: &mut [Side], chan: ChanId, into: &mut [u8]) -> Result<Came, Failed>
     requires { LONGEST ≤ length into.old }
-    ensures answer { result ≡ receive_answer (side_at sides.old chan) }
-    ensures buffer { into.new ≡ receive_buffer (side_at sides.old chan) into.old }
+    ensures answer { result ≡ receive_answer (side_at sides.old chan.number) chan.serial }
+    ensures buffer { into.new ≡ receive_buffer (side_at sides.old chan.number) chan.serial into.old }
     ensures after { sides.new ≡ sides_after_receive sides.old chan }
     ensures short { IfOk result IsCame }
 {
-    let at = chan.0 as usize;
+    let at = chan.number.0 as usize;
     if at >= sides.len() {
         return Err(Failed);
     }
-    sides[at].receive(into)
+    sides[at].receive(chan.serial, into)
 }
 
-fn send_at(sides: &mut [Side], chan: ChanNo, packet: SentPacket) -> Result<(), AllocError>
-    requires { chan.0 < length sides.old }
+fn send_at(sides: &mut [Side], chan: ChanId, packet: SentPacket) -> Result<(), AllocError>
+    requires { chan.number.0 < length sides.old }
     ensures ok { OnOk result (sides.new ≡ sides_after_send sides.old chan packet) }
     ensures err { OnErr result (sides.new ≡ sides.old) }
 {
-    sides[chan.0 as usize].send(packet)
+    sides[chan.number.0 as usize].send(packet)
 }
 
-fn close_at(sides: &mut [Side], chan: ChanNo)
+fn close_at(sides: &mut [Side], chan: ChanId)
     ensures { sides.new ≡ sides_after_close sides.old chan }
 {
-    let at = chan.0 as usize;
+    let at = chan.number.0 as usize;
     if at < sides.len() {
-        sides[at].close();
+        sides[at].close(chan.serial);
     }
 }
 
 // The packets that were sent on a channel.
-fn went_at(sides: &[Side], chan: ChanNo) -> &[SentPacket]
+fn went_at(sides: &[Side], chan: ChanId) -> &[SentPacket]
     ensures { result.now ≡ (traffic_at sides.now chan).went }
 {
-    let at = chan.0 as usize;
+    let at = chan.number.0 as usize;
     if at >= sides.len() {
         return &[];
     }
-    sides[at].went()
+    sides[at].went(chan.serial)
 }
 
-// What a channel is ready for.
-fn ready_of(sides: &[Side], chan: ChanNo) -> Ops
-    ensures { result ≡ side_ready (side_at sides.now chan) }
+// What a number is ready for.
+fn ready_of(sides: &[Side], number: ChanNo) -> Ops
+    ensures { result ≡ side_ready (side_at sides.now number) }
 {
-    let at = chan.0 as usize;
+    let at = number.0 as usize;
     if at >= sides.len() {
         return Ops::NONE;
     }
@@ -202,9 +214,9 @@ fn tell(alloc: Global, sides: &[Side], asked: &Asked) -> Result<Vec<(u32, Ops)>,
 }
 
 impl MemoryPackets {
-    /// A net with the channels 0 and 1. `client` are the packets that come to channel 0, `target` those of channel 1,
-    /// each with its sender. A packet is cut at 65,507 bytes. The send with the number `fail_send` fails, counted from
-    /// 0 over both channels.
+    /// A net with the numbers 0 and 1. `client` are the packets that come to number 0, `target` those of number 1, each
+    /// with its sender. A packet is cut at 65,507 bytes. The send with the number `fail_send` fails, counted from
+    /// 0 over all channels.
     pub fn make(
         alloc: Global,
         client: Vec<(Addr, Vec<u8>)>,
@@ -212,8 +224,8 @@ impl MemoryPackets {
         fail_send: Option<u64>,
     ) -> Result<MemoryPackets, AllocError>
         ensures planned { IfOk result (λ net. net ≡ planned client.items target.items fail_send) }
-        ensures fresh { IfOk result (λ net. (c : ChanNo) → traffic_at net.sides c ≡ no_traffic) }
-        ensures unbound { IfOk result (λ net. (c : ChanNo) → place_at net.sides c ≡ place_is.Unbound) }
+        ensures fresh { IfOk result (λ net. (c : ChanId) → traffic_at net.sides c ≡ no_traffic) }
+        ensures unbound { IfOk result (λ net. (c : ChanId) → place_at net.sides c ≡ place_is.Unbound) }
     {
         Self::of_plan(alloc, client, target, fail_send)
     }
@@ -239,14 +251,14 @@ impl MemoryPackets {
     }
 
     /// How many packets were sent on this channel.
-    pub fn went_len(&self, chan: ChanNo) -> usize
+    pub fn went_len(&self, chan: ChanId) -> usize
         ensures { result ≡ length (traffic_at self.now.sides chan).went }
     {
         went_at(&self.sides, chan).len()
     }
 
     /// To whom a packet was sent, by its place among those that were sent on this channel.
-    pub fn went_to(&self, chan: ChanNo, at: usize) -> Addr
+    pub fn went_to(&self, chan: ChanId, at: usize) -> Addr
         requires { at < length (traffic_at self.now.sides chan).went }
         ensures { option_map (λ p. p.addr) (slice_get (traffic_at self.now.sides chan).went at) ≡ Some result }
     {
@@ -254,49 +266,66 @@ impl MemoryPackets {
     }
 
     /// The bytes of that packet.
-    pub fn went_bytes(&self, chan: ChanNo, at: usize) -> &[u8]
+    pub fn went_bytes(&self, chan: ChanId, at: usize) -> &[u8]
         requires { at < length (traffic_at self.now.sides chan).went }
         ensures { option_map (λ p. p.bytes) (slice_get (traffic_at self.now.sides chan).went at) ≡ Some result.now }
     {
         went_at(&self.sides, chan)[at].bytes()
     }
 
-    /// Binds as `PacketNet::bind_packets` does, at any time: it fails where the net hasn't got the channel, and where
-    /// it was bound before.
-    pub fn bind_socket(&mut self, chan: ChanNo, at: Addr) -> Result<(), Failed>
-        ensures answer { result ≡ bind_answer_at self.old.sides chan }
-        ensures after { self.new ≡ after_bind self.old chan at }
+    /// Whether a socket is bound under this channel.
+    pub fn is_bound(&self, chan: ChanId) -> bool
+        ensures { result ≡ is_bound_at self.now.sides chan }
     {
-        let result = bind_at(&mut self.sides, chan, at);
-        count(&mut self.faulted, chan, &result);
-        result
+        is_bound_at(&self.sides, chan)
+    }
+
+    /// Binds as `PacketNet::bind_packets` does, at any time.
+    pub fn bind_socket(&mut self, chan: ChanId, at: Addr) -> Result<(), BindFailure>
+        ensures fails { result ≢ Err refusal.Memory
+            → ((result ≡ Err refusal.NotFree) ↔ (can_bind self.old.sides chan ≡ false)) }
+        ensures free { IsOk result → can_bind self.old.sides chan ≡ true }
+        ensures ok { OnOk result (self.new ≡ after_bind self.old chan at) }
+        ensures err { OnErr result (self.new ≡ faulted_on chan self.old) }
+    {
+        match bind_at(self.alloc, &mut self.sides, chan, at) {
+            Ok(()) => {
+                self.findings.push(&Finding::Forgotten(chan.number));
+                Ok(())
+            }
+            Err(failure) => {
+                self.faulted.push(&chan);
+                Err(failure)
+            }
+        }
     }
 
     /// Receives as `PacketNet::receive` does, at any time: it fails where nothing is bound there.
-    pub fn receive_packet(&mut self, chan: ChanNo, into: &mut [u8]) -> Result<Came, Failed>
+    pub fn receive_packet(&mut self, chan: ChanId, into: &mut [u8]) -> Result<Came, Failed>
         requires { LONGEST ≤ length into.old }
-        ensures answer { result ≡ receive_answer (side_at self.old.sides chan) }
-        ensures buffer { into.new ≡ receive_buffer (side_at self.old.sides chan) into.old }
+        ensures answer { result ≡ receive_answer (side_at self.old.sides chan.number) chan.serial }
+        ensures buffer { into.new ≡ receive_buffer (side_at self.old.sides chan.number) chan.serial into.old }
         ensures after { self.new ≡ after_receive self.old chan }
         ensures short { IfOk result IsCame }
     {
         let result = receive_at(&mut self.sides, chan, into);
         count(&mut self.faulted, chan, &result);
         let is_early = matches!(&result, Ok(Came::NotYet));
-        log(&mut self.findings, chan, is_early);
+        log(&mut self.findings, chan.number, is_early);
         result
     }
 
     /// Sends as `PacketNet::send` does, at any time: it fails where nothing is bound there, where the plan says so, and
     /// where there is no memory to keep the packet.
-    pub fn send_packet(&mut self, chan: ChanNo, bytes: &[u8], to: Addr) -> Result<(), SendFailure>
+    pub fn send_packet(&mut self, chan: ChanId, bytes: &[u8], to: Addr) -> Result<(), SendFailure>
         ensures fails { result ≢ Err failure.Memory → ((result ≡ Err failure.Planned)
-            ↔ (FailsNext self.old.sends ⊎ (is_bound (place_at self.old.sides chan) ≡ false))) }
+            ↔ (FailsNext self.old.sends ⊎ (is_bound_at self.old.sides chan ≡ false))) }
         ensures ok { OnOk result (self.new
             ≡ after_sent self.old chan (record { addr = to; bytes = bytes.now })) }
         ensures failed { result ≡ Err failure.Planned → self.new ≡ after_planned_send self.old chan }
         ensures lost { result ≡ Err failure.Memory → self.new ≡ after_lost_send self.old chan }
-        ensures inside { IsOk result → chan.0 < length self.old.sides }
+        ensures inside { IsOk result → chan.number.0 < length self.old.sides }
+        ensures bound { IsOk result → is_bound_at self.old.sides chan ≡ true }
     {
         let able = is_bound_at(&self.sides, chan);
         if self.sends.next(able).is_err() {
@@ -314,10 +343,12 @@ impl MemoryPackets {
         Ok(())
     }
 
-    /// Closes the socket of a channel.
-    pub(crate) fn close_socket(&mut self, chan: ChanNo)
+    /// Closes the socket of a channel, if it has one.
+    pub(crate) fn close_socket(&mut self, chan: ChanId)
         ensures { self.new ≡ after_close self.old chan }
     {
+        let was_bound = is_bound_at(&self.sides, chan);
+        log_closed(&mut self.findings, chan.number, was_bound);
         close_at(&mut self.sides, chan);
     }
 }
@@ -403,6 +434,7 @@ impl<'a> Reading<PollAnswer<'a>, Finding> for OnePoll {
     }) ∷ [] };
 }
 
+// Each call has the clause of its net's call, and says what it answers and leaves by its plan.
 impl PacketNet for MemoryPackets {
     ghost use Rattle.std.proofs.Common.{ap};
 
@@ -412,64 +444,33 @@ impl PacketNet for MemoryPackets {
 
     ghost place = { λ s. place_at s.sides };
 
-    fn bind_packets(&mut self, chan: ChanNo, at: Addr) -> Result<(), Failed>
-        // As every net of packets.
-        requires unbound { place_at self.old.sides chan ≡ place_is.Unbound }
-        ensures cause { HasCause (times self.old.faulted chan) (times self.new.faulted chan) result }
-        ensures others { IsSameBut chan (times self.old.faulted) (times self.new.faulted) }
-        ensures traffic { (c : ChanNo) → traffic_at self.new.sides c ≡ traffic_at self.old.sides c }
-        ensures ready { (c : ChanNo) → ready_told self.new.findings c ≡ ready_told self.old.findings c }
-        ensures place { place_at self.new.sides chan ≡ place_after_bind result at }
-        ensures places { IsSameBut chan (place_at self.old.sides) (place_at self.new.sides) }
-        ensures shown { polls_told self.new.findings ≡ polls_told self.old.findings }
-
-        // By what stands there.
-        ensures answer { result ≡ bind_answer_at self.old.sides chan }
-        ensures after { self.new ≡ after_bind self.old chan at }
+    fn bind_packets(&mut self, chan: ChanId, at: Addr) -> Result<(), Failed>
+        requires { IsFree (place_at self.old.sides) chan }
+        ensures call { Binds chan at (shown self.old) (shown self.new) result }
+        ensures ok { OnOk result (self.new ≡ after_bind self.old chan at) }
+        ensures err { OnErr result (self.new ≡ faulted_on chan self.old) }
     {
-        self.bind_socket(chan, at)
+        match self.bind_socket(chan, at) {
+            Ok(()) => Ok(()),
+            Err(_failure) => Err(Failed),
+        }
     }
 
-    fn receive(&mut self, chan: ChanNo, into: &mut [u8]) -> Result<Came, Failed>
-        // As every net of packets.
+    fn receive(&mut self, chan: ChanId, into: &mut [u8]) -> Result<Came, Failed>
         requires room { LONGEST ≤ length into.old }
-        requires ready { IsTrue (is_within 1 (ready_told self.old.findings chan)) }
-        requires bound { IsBound (place_at self.old.sides chan) }
-        ensures cause { HasCause (times self.old.faulted chan) (times self.new.faulted chan) result }
-        ensures others { IsSameBut chan (times self.old.faulted) (times self.new.faulted) }
-        ensures came { IfOk result IsCame }
-        ensures traffic { traffic_at self.new.sides chan
-            ≡ traffic_after_receive result into.new (traffic_at self.old.sides chan) }
-        ensures traffic_else { IsSameBut chan (traffic_at self.old.sides) (traffic_at self.new.sides) }
-        ensures ready { ready_told self.new.findings chan
-            ≡ ready_after_receive result (ready_told self.old.findings chan) }
-        ensures ready_else { IsSameBut chan (ready_told self.old.findings) (ready_told self.new.findings) }
-        ensures places { (c : ChanNo) → place_at self.new.sides c ≡ place_at self.old.sides c }
-        ensures shown { polls_told self.new.findings ≡ polls_told self.old.findings }
-
-        // By the packets that were planned.
-        ensures answer { result ≡ receive_answer (side_at self.old.sides chan) }
-        ensures buffer { into.new ≡ receive_buffer (side_at self.old.sides chan) into.old }
+        requires may { MayReceive chan (shown self.old) }
+        ensures call { Receives chan (shown self.old) (shown self.new) into.new result }
+        ensures answer { result ≡ receive_answer (side_at self.old.sides chan.number) chan.serial }
+        ensures buffer { into.new ≡ receive_buffer (side_at self.old.sides chan.number) chan.serial into.old }
         ensures after { self.new ≡ after_receive self.old chan }
     {
         self.receive_packet(chan, into)
     }
 
-    fn send(&mut self, chan: ChanNo, bytes: &[u8], to: Addr) -> Result<bool, Failed>
-        // As every net of packets.
+    fn send(&mut self, chan: ChanId, bytes: &[u8], to: Addr) -> Result<bool, Failed>
         requires fits { length bytes.now ≤ LONGEST }
-        requires ready { IsTrue (is_within 4 (ready_told self.old.findings chan)) }
-        requires bound { IsBound (place_at self.old.sides chan) }
-        ensures cause { HasCause (times self.old.faulted chan) (times self.new.faulted chan) result }
-        ensures others { IsSameBut chan (times self.old.faulted) (times self.new.faulted) }
-        ensures traffic { traffic_at self.new.sides chan
-            ≡ traffic_after_send result to bytes.now (traffic_at self.old.sides chan) }
-        ensures traffic_else { IsSameBut chan (traffic_at self.old.sides) (traffic_at self.new.sides) }
-        ensures ready { ready_told self.new.findings chan
-            ≡ ready_after_send result (ready_told self.old.findings chan) }
-        ensures ready_else { IsSameBut chan (ready_told self.old.findings) (ready_told self.new.findings) }
-        ensures places { (c : ChanNo) → place_at self.new.sides c ≡ place_at self.old.sides c }
-        ensures shown { polls_told self.new.findings ≡ polls_told self.old.findings }
+        requires may { MaySend chan (shown self.old) }
+        ensures call { Sends chan to (shown self.old) (shown self.new) bytes.now result }
 
         // By its plan: there is always room.
         ensures never_early { result ≢ Ok false }
@@ -484,20 +485,12 @@ impl PacketNet for MemoryPackets {
         }
     }
 
-    fn connect_packets(&mut self, _chan: ChanNo, _to: Addr)
+    fn connect_packets(&mut self, _chan: ChanId, _to: Addr)
         ensures { self.new ≡ self.old }
     {}
 
-    fn close_packets(&mut self, chan: ChanNo)
-        // As every net of packets.
-        ensures faults { (c : ChanNo) → times self.new.faulted c ≡ times self.old.faulted c }
-        ensures traffic { (c : ChanNo) → traffic_at self.new.sides c ≡ traffic_at self.old.sides c }
-        ensures ready { (c : ChanNo) → ready_told self.new.findings c ≡ ready_told self.old.findings c }
-        ensures place { place_at self.new.sides chan ≡ place_after_close (place_at self.old.sides chan) }
-        ensures places { IsSameBut chan (place_at self.old.sides) (place_at self.new.sides) }
-        ensures shown { polls_told self.new.findings ≡ polls_told self.old.findings }
-
-        // By what stands there.
+    fn close_packets(&mut self, chan: ChanId)
+        ensures call { Closes chan (shown self.old) (shown self.new) }
         ensures after { self.new ≡ after_close self.old chan }
     {
         self.close_socket(chan);

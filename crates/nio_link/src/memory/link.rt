@@ -1,14 +1,11 @@
 //! One end of a connection in memory.
 ghost use Rattle.std.specs.Prelude.{◌≡◌, ◌≢◌, ◌≤◌, [], true, length, IfOk};
 ghost use Rattle.nio_link.specs.Links.{IsGot, IsPut};
-ghost use Rattle.nio_link.specs.MemoryLinks.{is_connected, is_connecting, link_ready, link_after_read};
-ghost use Rattle.nio_link.specs.MemoryLinks.{link_after_write, put_of, connect_answer, stage_after_connect};
+ghost use Rattle.nio_link.specs.MemoryLinks.{link_ready, link_after_read, link_after_write, put_of};
 ghost use Rattle.nio_link.specs.Pieces.{got_of, buffer_after};
-ghost use Rattle.nio_link.specs.declared.memory.stage.Stage.TheVariants as stage;
 
 use crate::memory::peer_no::PeerNo;
 use crate::memory::pieces::Pieces;
-use crate::memory::stage::Stage;
 use crate::net::{Failed, Got, Put};
 use nio_base::Ops;
 use std::marker::Model;
@@ -17,7 +14,6 @@ use std::marker::Model;
 #[derive(Drop)]
 pub(crate) struct MemoryLink {
     pub(crate) peer: PeerNo,
-    pub(crate) stage: Stage,
     pub(crate) pieces: Pieces,
     pub(crate) got: Vec<u8>,
     pub(crate) ended: bool,
@@ -37,7 +33,6 @@ impl Model for MemoryLink {
 
     ghost view = { λ l. record {
       peer = l.peer;
-      stage = l.stage;
       pieces = l.pieces;
       got = l.got.items;
       ended = l.ended;
@@ -53,31 +48,13 @@ impl Model for MemoryLink {
 }
 
 impl MemoryLink {
-    pub(crate) fn is_connected(&self) -> bool
-        ensures { result ≡ is_connected self.now.stage }
-    {
-        self.stage == Stage::Connected
-    }
-
-    pub(crate) fn is_connecting(&self) -> bool
-        ensures { result ≡ is_connecting self.now.stage }
-    {
-        self.stage == Stage::Connecting
-    }
-
-    // Which operations it is ready for.
+    // Which operations it is ready for, once it is connected.
     pub(crate) fn ready(&self) -> Ops
-        ensures { result ≡ link_ready self.now.stage self.now.ended self.now.shut }
+        ensures { result ≡ link_ready self.now.ended self.now.shut }
     {
-        match self.stage {
-            Stage::Connecting => Ops::CONNECT,
-            Stage::Connected => {
-                let reading = if self.ended { Ops::NONE } else { Ops::READ };
-                let writing = if self.shut { Ops::NONE } else { Ops::WRITE };
-                reading.union(writing)
-            }
-            Stage::Closed => Ops::NONE,
-        }
+        let reading = if self.ended { Ops::NONE } else { Ops::READ };
+        let writing = if self.shut { Ops::NONE } else { Ops::WRITE };
+        reading.union(writing)
     }
 
     pub(crate) fn read(&mut self, into: &mut [u8]) -> Got
@@ -118,23 +95,5 @@ impl MemoryLink {
         ensures { self.new ≡ record self.old { shut = true } }
     {
         self.shut = true;
-    }
-
-    pub(crate) fn finish_connect(&mut self) -> Result<bool, Failed>
-        ensures answer { result ≡ connect_answer self.old.fail_connect }
-        ensures after { self.new ≡ record self.old { stage = stage_after_connect self.old.fail_connect } }
-    {
-        if self.fail_connect {
-            self.stage = Stage::Closed;
-            return Err(Failed);
-        }
-        self.stage = Stage::Connected;
-        Ok(true)
-    }
-
-    pub(crate) fn close(&mut self)
-        ensures { self.new ≡ record self.old { stage = stage.Closed } }
-    {
-        self.stage = Stage::Closed;
     }
 }

@@ -6,7 +6,7 @@ use std::marker::Model;
 /// the room that was taken for their bytes.
 #[derive(Drop)]
 pub struct LooseLink {
-    pub(crate) link: Option<MemoryLink>,
+    pub(crate) link: MemoryLink,
     pub(crate) target: Option<MemoryLink>,
 }
 
@@ -19,5 +19,5 @@ impl Model for LooseLink {
 
     ghost view = { λ l. record { link = l.link; target = l.target } };
 
-    ghost invariant = { λ l. IfSome l.link IsFresh × IfSome l.target IsFresh };
+    ghost invariant = { λ l. IsFresh l.link × IfSome l.target IsFresh };
 }

@@ -1,8 +1,8 @@
 //! What a net in memory is to do.
 ghost use Rattle.std.specs.Prelude.{◌≡◌, ◌≤◌, map, IfOk};
-ghost use Rattle.nio_base.specs.declared.numbers.ChanNo.{ChanNo};
+ghost use Rattle.nio_base.specs.declared.numbers.ChanId.{ChanId};
 ghost use Rattle.nio_link.specs.Links.{IsUnused};
-ghost use Rattle.nio_link.specs.Places.{places_after, unused};
+ghost use Rattle.nio_link.specs.Places.{places_after, never_asked};
 ghost use Rattle.nio_link.specs.Slots.{carried_at};
 ghost use Rattle.nio_link.specs.NetPlans.{fresh_link, client_end, target_end, limit_of, numbers_of, planned};
 ghost use Rattle.nio_link.specs.Pieces.{total};
@@ -10,10 +10,10 @@ ghost use Rattle.nio_link.specs.declared.memory.peer_no.PeerNo.TheVariants as pe
 
 use crate::memory::link::MemoryLink;
 use crate::memory::memory_net::MemoryNet;
+use crate::memory::passing::past_room;
 use crate::memory::peer_no::PeerNo;
 use crate::memory::pieces::Pieces;
 use crate::memory::slot::Slot;
-use crate::memory::stage::Stage;
 use crate::place_log::PlaceLog;
 use nio_bytes::Calls;
 use nio_trace::Trace;
@@ -49,14 +49,15 @@ pub struct NetPlan {
 
 impl MemoryNet {
     /// A net with room for a listener and two links a peer: its channels have numbers up to twice the number of peers,
-    /// until a link is put in beyond them, and a call of `Net` on any other channel fails. It takes memory for all
-    /// bytes of its plan; a write past them fails. A link that `accept` makes is the client of the next peer, and one
-    /// that `connect` makes is the target of the next peer not yet connected. Each channel bears one link.
+    /// until a link is put in beyond them, and a call of `Net` on any other number fails. It takes memory for all links
+    /// and bytes of its plan, and no more where numbers serve again; a write past the plan's bytes fails. A link that
+    /// `accept` makes is the client of the next peer, and one that `connect` makes is the target of the next peer not
+    /// yet connected.
     #[tactic(auto, using(crate::proofs::FreshNet::planned_unused, crate::proofs::FreshNet::planned_unasked))]
     pub fn make(alloc: Global, plan: NetPlan) -> Result<MemoryNet, AllocError>
         ensures planned { IfOk result (λ net. net ≡ planned plan) }
-        ensures fresh { IfOk result (λ net. (c : ChanNo) → IsUnused (carried_at net.slots c)) }
-        ensures unasked { IfOk result (λ net. (c : ChanNo) → places_after net.changes c ≡ unused) }
+        ensures fresh { IfOk result (λ net. (c : ChanId) → IsUnused (carried_at net.slots net.past c)) }
+        ensures unasked { IfOk result (λ net. (c : ChanId) → places_after net.changes c ≡ never_asked) }
     {
         Self::of_plan(alloc, plan)
     }
@@ -76,8 +77,10 @@ impl MemoryNet {
             slots.push(Slot::Free)?;
         }
         let log = PlaceLog::make(alloc, slots.len())?;
+        let most = past_room(clients.len(), targets.len())?;
         Ok(MemoryNet {
             slots,
+            past: VecDeque::with_capacity(alloc, most)?,
             clients: VecDeque::from_vec(clients),
             targets: VecDeque::from_vec(targets),
             polls: Calls::new(numbers(alloc, plan.fail_poll)?),
@@ -114,7 +117,6 @@ fn ends_of(
     client.peer = PeerNo::Planned(place);
     let mut target = open(alloc, peer.answers, answered, peer.most.max(1), limit)?;
     target.peer = PeerNo::Planned(place);
-    target.stage = Stage::Connecting;
     target.fail_connect = peer.fail_connect;
     Ok((client, target))
 }
@@ -134,7 +136,6 @@ fn open(
 {
     Ok(MemoryLink {
         peer: PeerNo::Planned(0),
-        stage: Stage::Connected,
         pieces: Pieces::make(Vec::new(alloc), pieces),
         got: Vec::with_capacity(alloc, count)?,
         ended: false,

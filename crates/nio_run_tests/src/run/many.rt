@@ -1,12 +1,11 @@
 //! The proxy with a net for each worker: how the program ends, what it says, and which bytes arrive in which net.
-ghost use Rattle.std.specs.Prelude.{◌≡◌, All, IfOk};
-ghost use Rattle.nio_base.specs.declared.numbers.ChanNo.{ChanNo as Channel};
-ghost use Rattle.nio_link.specs.Links.{IsUnused};
-ghost use Rattle.nio_link.specs.Places.{places_after, unused};
-ghost use Rattle.nio_link.specs.Slots.{carried_at};
+ghost use Rattle.std.specs.Prelude.{All, IfOk};
+ghost use Rattle.nio_link.specs.MemoryNet.{shown};
+ghost use Rattle.nio_serve.specs.Serving.{IsFresh};
 
+use super::relays::link;
 use super::runs_with;
-use nio_base::{ChanNo, NoGate};
+use nio_base::{ChanId, NoGate};
 use nio_bytes::{MemorySink, MemorySource};
 use nio_link::{MemoryNet, NetPlan, PeerPlan};
 use nio_poller::NoBell;
@@ -95,8 +94,7 @@ fn peer(alloc: Global, sent: &[u8], fail_connect: bool) -> Result<PeerPlan, Allo
 
 /// The net of the listener.
 fn net_of(alloc: Global, row: &Row, sent: &[u8]) -> Result<MemoryNet, AllocError>
-    ensures fresh { IfOk result (λ net. (c : Channel) → IsUnused (carried_at net.slots c)) }
-    ensures unasked { IfOk result (λ net. (c : Channel) → places_after net.changes c ≡ unused) }
+    ensures { IfOk result (λ net. IsFresh (shown net)) }
 {
     let mut peers = Vec::new(alloc);
     for number in 0..CONNS {
@@ -114,9 +112,7 @@ fn net_of(alloc: Global, row: &Row, sent: &[u8]) -> Result<MemoryNet, AllocError
 
 /// So many nets to which nobody connects.
 pub(super) fn nets_of(alloc: Global, count: usize) -> Result<Vec<MemoryNet>, AllocError>
-    ensures fresh { IfOk result (λ nets. All (λ net. (c : Channel) → IsUnused (carried_at net.slots c)) nets.items) }
-    ensures unasked { IfOk result (λ nets. All (λ net. (c : Channel) → places_after net.changes c ≡ unused)
-        nets.items) }
+    ensures { IfOk result (λ nets. All (λ net. IsFresh (shown net)) nets.items) }
 {
     let mut nets = Vec::new(alloc);
     for _ in 0..count {
@@ -165,10 +161,12 @@ where
 }
 
 /// The links of a connection in a worker's net: its client's and its target's.
-type Links = (ChanNo, ChanNo);
+type Links = (ChanId, ChanId);
 
 /// The links of a net's first two connections.
-const LINKS: [Links; 2] = [(ChanNo(1), ChanNo(2)), (ChanNo(3), ChanNo(4))];
+fn first_links() -> [Links; 2] {
+    [(link(1), link(2)), (link(3), link(4))]
+}
 
 /// Whether both links have ended and are shut.
 fn is_over(net: &MemoryNet, (client, target): Links) -> bool {
@@ -185,8 +183,8 @@ fn has_arrived(net: &MemoryNet, sent: &[u8], links: Links, count: usize) -> bool
 
 /// Whether so many of the bytes have arrived at the targets of a net's first two connections.
 fn have_arrived(net: &MemoryNet, sent: &[u8], (first, second): (usize, usize)) -> bool {
-    let [first_links, second_links] = LINKS;
-    has_arrived(net, sent, first_links, first) && has_arrived(net, sent, second_links, second)
+    let [of_first, of_second] = first_links();
+    has_arrived(net, sent, of_first, first) && has_arrived(net, sent, of_second, second)
 }
 
 #[test]

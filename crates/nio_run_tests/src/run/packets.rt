@@ -1,12 +1,12 @@
 //! The relay of packets over a net in memory: how the program ends, what it says, and which packets go to the target.
 ghost use Rattle.std.specs.Prelude.{◌≡◌, IfOk};
-ghost use Rattle.nio_base.specs.declared.numbers.ChanNo.{ChanNo};
+ghost use Rattle.nio_base.specs.declared.numbers.ChanId.{ChanId as Channel};
 ghost use Rattle.nio_datagram.specs.MemoryPackets.{place_at, traffic_at};
 ghost use Rattle.nio_datagram.specs.Packets.{no_traffic};
 ghost use Rattle.nio_datagram.specs.declared.net.Place.TheVariants as place_is;
 
 use super::{relays, runs_over};
-use nio_base::{Addr, ChanNo, NoGate};
+use nio_base::{Addr, ChanId, ChanNo, NoGate};
 use nio_bytes::{MemorySink, MemorySource};
 use nio_datagram::MemoryPackets;
 use nio_poller::NoBell;
@@ -49,8 +49,8 @@ fn at(port: u16) -> Addr {
 
 /// A client's packets of the bytes 61, 62 62 and none, and a stranger's of the byte 7a after the first.
 fn packets(alloc: Global, fail_send: Option<u64>) -> Result<MemoryPackets, AllocError>
-    ensures fresh { IfOk result (λ net. (c : ChanNo) → traffic_at net.sides c ≡ no_traffic) }
-    ensures unbound { IfOk result (λ net. (c : ChanNo) → place_at net.sides c ≡ place_is.Unbound) }
+    ensures fresh { IfOk result (λ net. (c : Channel) → traffic_at net.sides c ≡ no_traffic) }
+    ensures unbound { IfOk result (λ net. (c : Channel) → place_at net.sides c ≡ place_is.Unbound) }
 {
     let mut front = Vec::new(alloc);
     front.push((at(4000), vec![in alloc; 0x61]?))?;
@@ -91,7 +91,10 @@ where
     Ok((status, net))
 }
 
-const TARGET: ChanNo = ChanNo(1);
+const TARGET: ChanId = ChanId {
+    number: ChanNo(1),
+    serial: 0,
+};
 
 /// Whether these packets went to the target, and no others.
 fn have_gone(net: &MemoryPackets, sent: &[&[u8]]) -> bool {

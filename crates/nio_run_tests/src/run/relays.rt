@@ -1,12 +1,10 @@
 //! The proxy over a net in memory: how the program ends, what it says, and which bytes arrive at both ends.
-ghost use Rattle.std.specs.Prelude.{◌≡◌, IfOk};
-ghost use Rattle.nio_base.specs.declared.numbers.ChanNo.{ChanNo};
-ghost use Rattle.nio_link.specs.Links.{IsUnused};
-ghost use Rattle.nio_link.specs.Places.{places_after, unused};
-ghost use Rattle.nio_link.specs.Slots.{carried_at};
+ghost use Rattle.std.specs.Prelude.{IfOk};
+ghost use Rattle.nio_link.specs.MemoryNet.{shown};
+ghost use Rattle.nio_serve.specs.Serving.{IsFresh};
 
 use super::runs;
-use nio_base::ChanNo;
+use nio_base::{ChanId, ChanNo};
 use nio_bytes::{MemorySink, MemorySource};
 use nio_link::{MemoryNet, NetPlan, PeerPlan};
 use nio_poller::NoBell;
@@ -301,8 +299,7 @@ pub(super) fn net_of(
     fail_poll: Option<u64>,
     fail_accept: Option<u64>,
 ) -> Result<MemoryNet, AllocError>
-    ensures fresh { IfOk result (λ net. (c : ChanNo) → IsUnused (carried_at net.slots c)) }
-    ensures unasked { IfOk result (λ net. (c : ChanNo) → places_after net.changes c ≡ unused) }
+    ensures { IfOk result (λ net. IsFresh (shown net)) }
 {
     let mut plans = Vec::new(alloc);
     for peer in peers {
@@ -328,8 +325,7 @@ fn relays<R>(
 ) -> Result<(u8, MemorySink, MemoryNet), AllocError>
 where
     R: Threads + Wait + RandomSource + AllocGlobal + Sync,
-    requires fresh { (c : ChanNo) → IsUnused (carried_at net.slots c) }
-    requires unasked { (c : ChanNo) → places_after net.changes c ≡ unused }
+    requires { IsFresh (shown net) }
 {
     let words = [
         "proxy",
@@ -347,12 +343,17 @@ where
     Ok((status, sink, net))
 }
 
+/// The first channel of this number.
+pub(super) fn link(number: u32) -> ChanId {
+    ChanId::first(ChanNo(number))
+}
+
 /// Whether the bytes that were put on the two links are the first that the peers sent, so many of them, and both links
 /// are shut or not.
 fn has_arrived(
     net: &MemoryNet,
-    client: ChanNo,
-    target: ChanNo,
+    client: ChanId,
+    target: ChanId,
     peer: &Peer,
     (of_client, of_target): (&[u8], &[u8]),
 ) -> bool {
@@ -375,8 +376,8 @@ where
     assert_eq!(rt; sink.bytes(), row.written.as_bytes(), "{} {way}", row.name);
     let mut client: u32 = 1;
     for peer in row.peers {
-        let target = ChanNo(client.wrapping_add(1));
-        let arrived = has_arrived(&net, ChanNo(client), target, peer, sent);
+        let target = link(client.wrapping_add(1));
+        let arrived = has_arrived(&net, link(client), target, peer, sent);
         assert!(rt; arrived, "{} {way}: {client}", row.name);
         client = client.wrapping_add(2);
     }
@@ -406,7 +407,7 @@ fn all_ways_end_alike(rt: HostRuntime) -> Result<(), Fail> {
 }
 
 /// Whether what was put on each link of this connection begins what was read from the other.
-fn is_begun(net: &MemoryNet, client: ChanNo, target: ChanNo) -> bool {
+fn is_begun(net: &MemoryNet, client: ChanId, target: ChanId) -> bool {
     net.got_bytes(client).starts_with(net.put_bytes(target))
         && net.got_bytes(target).starts_with(net.put_bytes(client))
 }
@@ -424,8 +425,7 @@ fn failing_nets(rt: HostRuntime) -> Result<(), Fail> {
                 written.as_bytes(),
                 "failing_nets: {name} {more}"
             );
-            let begun = is_begun(&net, ChanNo(1), ChanNo(2))
-                && is_begun(&net, ChanNo(3), ChanNo(4));
+            let begun = is_begun(&net, link(1), link(2)) && is_begun(&net, link(3), link(4));
             assert!(rt; begun, "failing_nets: {name} {more}");
         }
     }

@@ -1,5 +1,6 @@
 use Rattle.std.proofs.Common.{◌≡◌, ◌<◌}
-use Rattle.nio_datagram.specs.Nets.{view_by, NoneFailed}
+use Rattle.nio_datagram.proofs.Views.{view_by}
+use Rattle.nio_datagram.specs.Nets.{NoneFailed}
 use Rattle.nio_datagram.specs.Passing.{IsKnown, IsPassing, Advances, PassState}
 use Rattle.nio_datagram.proofs.direction.pass.Given as goal
 
@@ -10,14 +11,14 @@ invariant-loop g l =
       sink = l.fn.sink;
       direction = l.fn.direction;
       net = view_by g.N.PacketNet.traffic g.N.PacketNet.packet_faults g.N.PacketNet.place g.N.Poller.ready
-          g.N.Poller.poll_faults l.fn.net;
+          g.N.Poller.poll_faults g.N.Poller.polls l.fn.net;
     } in
     let here : PassState = record {
       source = l.source;
       sink = l.sink;
       direction = l.direction;
       net = view_by g.N.PacketNet.traffic g.N.PacketNet.packet_faults g.N.PacketNet.place g.N.Poller.ready
-          g.N.Poller.poll_faults l.net;
+          g.N.Poller.poll_faults g.N.Poller.polls l.net;
     } in
     record {
       known : IsKnown l.ready here;

@@ -1,7 +1,8 @@
-use Rattle.nio_net_tests.proofs.Accepted.{nothing_carried}
+use Rattle.nio_net_tests.proofs.Accepted.{accept_carries}
 use Rattle.nio_net_tests.proofs.passing.accept.Goals as goal
 
 pub returns-clause-links : goal.returns-clause-links
 returns-clause-links c =
-    nothing_carried _ _ _ _ _ c.accept_link.ensures.fresh c.accept_link.ensures.free c.accept_link.ensures.ok
-    c.accept_link.ensures.err
+    let made = c.accept_link.ensures in
+    accept_carries c.args.net.now c.first.result c.args.chan c.accept_link.new.self c.accept_link.result made.fresh
+    made.spent made.free made.ok made.err

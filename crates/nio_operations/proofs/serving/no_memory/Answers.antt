@@ -1,5 +1,8 @@
-use Rattle.nio_serve.proofs.Promise.{unbegun}
+use Rattle.std.proofs.Common.{refl}
+use Rattle.nio_serve.proofs.Promise.{nothing_served}
+use Rattle.nio_serve.specs.declared.serving.ServeError.TheVariants.{Memory}
 use Rattle.nio_operations.proofs.serving.no_memory.Goals as goal
 
-pub returns-clause-relays : goal.returns-clause-relays
-returns-clause-relays g c = unbegun (g.N.Net.link c.args.net.now) c.requires.fresh
+pub returns : goal.returns
+returns g c =
+    nothing_served c.args.plan _ _ Memory c.requires.fresh refl (λ is. absurd (cc))

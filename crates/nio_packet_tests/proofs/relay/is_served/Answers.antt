@@ -1,4 +1,5 @@
 use Rattle.nio_datagram.specs.Serving.{client_chan, target_chan}
+use Rattle.nio_datagram.proofs.PlaceLaws.{free_first}
 use Rattle.nio_packet_tests.proofs.relay.is_served.Goals as goal
 
 pub serve_packets-answer-requires-clause-client_unused : goal.serve_packets-answer-requires-clause-client_unused
@@ -7,8 +8,8 @@ serve_packets-answer-requires-clause-client_unused g c = c.in_ok-net.ensures.fre
 pub serve_packets-answer-requires-clause-target_unused : goal.serve_packets-answer-requires-clause-target_unused
 serve_packets-answer-requires-clause-target_unused g c = c.in_ok-net.ensures.fresh target_chan
 
-pub serve_packets-answer-requires-clause-client_unbound : goal.serve_packets-answer-requires-clause-client_unbound
-serve_packets-answer-requires-clause-client_unbound g c = c.in_ok-net.ensures.unbound client_chan
+pub serve_packets-answer-requires-clause-client_free : goal.serve_packets-answer-requires-clause-client_free
+serve_packets-answer-requires-clause-client_free g c = free_first _ client_chan c.in_ok-net.ensures.unbound
 
-pub serve_packets-answer-requires-clause-target_unbound : goal.serve_packets-answer-requires-clause-target_unbound
-serve_packets-answer-requires-clause-target_unbound g c = c.in_ok-net.ensures.unbound target_chan
+pub serve_packets-answer-requires-clause-target_free : goal.serve_packets-answer-requires-clause-target_free
+serve_packets-answer-requires-clause-target_free g c = free_first _ target_chan c.in_ok-net.ensures.unbound

@@ -1,5 +1,5 @@
 use Rattle.std.proofs.Common.{subst}
-use Rattle.nio_serve.specs.declared.deal.Deal.{Deal}
+use Rattle.nio_board.specs.declared.deal.Deal.{Deal}
 use Rattle.nio_reactor.proofs.Seating.{left_seat, left_unseated}
 use Rattle.nio_reactor.specs.Seats.{LeavesSeat, acceptor_deal}
 use Rattle.nio_reactor.specs.declared.many.ManyError.TheVariants.{Memory}

@@ -3,43 +3,38 @@ use Rattle.std.proofs.lemmas.List.{length-map}
 use Rattle.std.proofs.lemmas.Result.{IfOk-weaker}
 use Rattle.nio_orderly.proofs.CallLists.{whole_is_orderly}
 use Rattle.nio_words.specs.Passes.{seen}
-use Rattle.nio_reactor.proofs.Accounting.{Shown, accounts_for, are_own, early_hand, have_handed}
+use Rattle.nio_reactor.proofs.Accounting.{Shown, accounts_for, are_own, early_hand, handed_of}
 use Rattle.nio_reactor.proofs.Accounting.{none_accounted, on_time, same_count, sent_all}
-use Rattle.nio_reactor.proofs.Concluding.{accepts_of, complete_of, few_faults, fresh_lanes, none_relay, none_workers}
-use Rattle.nio_reactor.proofs.Concluding.{on_ok, relays_of, serves_of, workers_of}
+use Rattle.nio_reactor.proofs.Concluding.{few_faults, fresh_lanes, none_done, on_ok, serves_of}
 use Rattle.nio_reactor.proofs.Gathered.{Settled, answered_with, passes_after, seats_of, settled}
-use Rattle.nio_reactor.proofs.Handing.{HaveHanded, handed_of, none_handed}
+use Rattle.nio_reactor.proofs.Handing.{none_handed}
+use Rattle.nio_reactor.proofs.Nets.{members}
 use Rattle.nio_reactor.specs.Dealing.{share}
 use Rattle.nio_reactor.specs.Handing.{AccountsForLinks, AreHanded}
-use Rattle.nio_reactor.specs.Many.{AreAccepted, ServesAllCleanOr, ServesMany, meanings}
+use Rattle.nio_reactor.specs.Many.{ServesMany}
 use Rattle.nio_reactor.specs.Placing.{table_for}
 use Rattle.nio_reactor.specs.Receiving.{in_hand, is_early}
 use Rattle.nio_reactor.specs.declared.many.ManyError.TheVariants.{Memory}
 use Rattle.nio_reactor.proofs.many.serve_between.Given.{Over}
 use Rattle.nio_reactor.proofs.many.serve_between.Goals as goal
 
-pub returns-in_default-clause-relays : goal.returns-in_default-clause-relays
-returns-in_default-clause-relays g c =
-    none_relay (meanings g.N.Net.link g.N.Net.place g.N.Net.faults g.N.Poller.poll_faults) c.args.outgoing.plan c.args.more.now.items
-    c.staff.new.more.items c.in_default.ensures.same c.requires.nets
-
-pub returns-in_default-clause-workers : goal.returns-in_default-clause-workers
-returns-in_default-clause-workers g c =
-    none_workers (meanings g.N.Net.link g.N.Net.place g.N.Net.faults g.N.Poller.poll_faults) c.args.outgoing.plan c.args.more.now.items
-    c.staff.new.more.items c.in_default.ensures.same c.requires.nets
+pub returns-in_default-clause-serves : goal.returns-in_default-clause-serves
+returns-in_default-clause-serves g c =
+    none_done (members g.N.Poller g.N.Net) c.args.outgoing.plan c.args.net.now c.args.more.now.items c.staff.new.more.items
+    c.in_default.ensures.same c.requires.fresh c.requires.nets
 
 pub returns-in_default-clause-handed : goal.returns-in_default-clause-handed
-returns-in_default-clause-handed g c = none_handed c.args.outgoing.plan.conns _ c.args.handed.now Memory
+returns-in_default-clause-handed g c =
+    none_handed (members g.N.Poller g.N.Net) c.args.outgoing.plan.conns c.staff.new.more.items c.args.handed.now Memory
 
 pub returns-in_default-clause-links : goal.returns-in_default-clause-links
 returns-in_default-clause-links g c =
-    none_accounted (meanings g.N.Net.link g.N.Net.place g.N.Net.faults g.N.Poller.poll_faults) (g.N.Net.accepted c.args.net.now)
-    c.args.more.now.items c.staff.new.more.items c.args.handed.now
+    none_accounted (members g.N.Poller g.N.Net) (g.N.Net.accepted c.args.net.now) c.args.more.now.items c.staff.new.more.items c.args.handed.now
 
 pub serve_lanes-accepted-requires-clause-nets : goal.serve_lanes-accepted-requires-clause-nets
 serve_lanes-accepted-requires-clause-nets g c κs within =
-    fresh_lanes (meanings g.N.Net.link g.N.Net.place g.N.Net.faults g.N.Poller.poll_faults) c.args.outgoing.plan
-    _ _ _ c.in-Ok.ensures.nets c.requires.nets
+    fresh_lanes (members g.N.Poller g.N.Net) (λ x. x.lane.net) c.in-Ok.workers.items c.args.more.now.items
+    c.in-Ok.ensures.nets c.requires.nets
 
 pub serve_lanes-accepted-requires-clause-seats : goal.serve_lanes-accepted-requires-clause-seats
 serve_lanes-accepted-requires-clause-seats g c κs within =
@@ -47,7 +42,7 @@ serve_lanes-accepted-requires-clause-seats g c κs within =
 
 pub conclude-outcome-requires-clause-faults : goal.conclude-outcome-requires-clause-faults
 conclude-outcome-requires-clause-faults g c κs within =
-    few_faults (meanings g.N.Net.link g.N.Net.place g.N.Net.faults g.N.Poller.poll_faults) c.args.outgoing.plan (λ x. x.lane.net) (λ x. is_early x.lane.heard) (λ x. x.lane.outcome) _ _
+    few_faults (members g.N.Poller g.N.Net) c.args.outgoing.plan (λ x. x.lane.net) (λ x. x.lane.put) (λ x. is_early x.lane.heard) (λ x. x.lane.outcome) _ _
     c.serve_lanes-accepted.ensures.count c.serve_lanes-accepted.ensures.worked c.requires.plan.few_connections
 
 pub give_back-requires-clause-passes : goal.give_back-requires-clause-passes
@@ -99,97 +94,59 @@ few_sent g c =
 all_sent : (g : Over) (c : goal.After-drop-outgoing-2 g) → IsOk c.serve_lanes-accepted.result
     → c.serve_lanes-accepted.ensures.sent.count ≡ c.args.outgoing.plan.conns
 all_sent g c ok =
-    same_count _ _ c.serve_lanes-accepted.ensures.sent.count c.args.outgoing.plan.conns
-    c.serve_lanes-accepted.ensures.sent.accepted
-    (on_ok c.serve_lanes-accepted.result ok c.serve_lanes-accepted.ensures.accepted.all)
+    same_count _ _ c.serve_lanes-accepted.ensures.sent.count c.serve_lanes-accepted.ensures.accepted.count
+    c.serve_lanes-accepted.ensures.sent.accepted c.serve_lanes-accepted.ensures.accepted.order
+    ∙ on_ok c.serve_lanes-accepted.result ok c.serve_lanes-accepted.ensures.accepted.all
 
 never_early : (g : Over) (c : goal.After-drop-outgoing-2 g) → IsOk c.serve_lanes-accepted.result → (v : ℕ) (x : _)
     → slice_get c.serve_lanes-accepted.new.workers.items v ≡ Some x → is_early x.lane.heard ≡ false
 never_early g c ok = on_time (λ x. x.lane.line) (λ x. x.lane.worker) (λ x. x.lane.put) (λ x. in_hand x.lane.heard)
     (λ x. is_early x.lane.heard) (λ x. x.lane.left) _ _ _ _ _ (shown_of g c) (all_sent g c ok)
 
-handed_as : (g : Over) (c : goal.After-drop-outgoing-2 g)
-    → HaveHanded c.args.outgoing.plan (λ x. x.lane.put) (λ x. x.lane.outcome) c.in-Ok.workers.items
-    c.serve_lanes-accepted.new.workers.items
-handed_as g c =
-    have_handed (λ x. x.lane.line) (λ x. x.lane.worker) (λ x. x.lane.put) (λ x. in_hand x.lane.heard)
-    (λ x. is_early x.lane.heard) (λ x. x.lane.left) _ _ _ _ _ (shown_of g c) c.args.outgoing.plan (λ x. x.lane.outcome) c.in-Ok.workers.items
-    (workers_are g c) c.serve_lanes-accepted.ensures.received
-
 pub returns-clause-serves : goal.returns-clause-serves
 returns-clause-serves g c =
-    subst (ServesMany (meanings g.N.Net.link g.N.Net.place g.N.Net.faults g.N.Poller.poll_faults) c.args.outgoing.plan
-    c.args.net.now c.serve_lanes-accepted.new.net c.args.more.now.items c.give_back.new.more.items)
-    (sym c.answer.ensures.served)
-    (serves_of (meanings g.N.Net.link g.N.Net.place g.N.Net.faults g.N.Poller.poll_faults) c.args.outgoing.plan
-    (λ x. x.lane.net) (λ x. is_early x.lane.heard) (λ x. x.lane.outcome) _ _ _ _ c.in-Ok.ensures.nets
-    c.give_back.ensures.nets c.serve_lanes-accepted.ensures.count
-    c.serve_lanes-accepted.ensures.worked c.serve_lanes-accepted.result (never_early g c) _ _ g.N.Net.accepted _
-    c.serve_lanes-accepted.ensures.accepted c.conclude-outcome.ensures)
+    subst (ServesMany (members g.N.Poller g.N.Net) c.args.outgoing.plan c.args.net.now c.serve_lanes-accepted.new.net
+    c.args.more.now.items c.give_back.new.more.items) (sym c.answer.ensures.served)
+    (serves_of (members g.N.Poller g.N.Net) c.args.outgoing.plan (λ x. x.lane.net) (λ x. x.lane.put)
+    (λ x. is_early x.lane.heard) (λ x. x.lane.outcome) _ _ _ _ c.in-Ok.ensures.nets c.give_back.ensures.nets
+    c.serve_lanes-accepted.ensures.count c.serve_lanes-accepted.ensures.worked c.serve_lanes-accepted.result
+    (never_early g c) _ _ _ c.serve_lanes-accepted.ensures.accepted c.conclude-outcome.ensures)
 
 pub returns-clause-count : goal.returns-clause-count
 returns-clause-count g c =
     ap length c.give_back.ensures.nets ∙ length-map c.serve_lanes-accepted.new.workers.items (λ x. x.lane.net)
     ∙ c.serve_lanes-accepted.ensures.count ∙ workers_are g c
 
-pub returns-clause-relays : goal.returns-clause-relays
-returns-clause-relays g c =
-    relays_of (meanings g.N.Net.link g.N.Net.place g.N.Net.faults g.N.Poller.poll_faults) c.args.outgoing.plan
-    (λ x. x.lane.net) (λ x. is_early x.lane.heard) (λ x. x.lane.outcome) _ _ _ _ c.in-Ok.ensures.nets
-    c.give_back.ensures.nets c.serve_lanes-accepted.ensures.count
-    c.serve_lanes-accepted.ensures.worked
-
-pub returns-clause-workers : goal.returns-clause-workers
-returns-clause-workers g c =
-    workers_of (meanings g.N.Net.link g.N.Net.place g.N.Net.faults g.N.Poller.poll_faults) c.args.outgoing.plan
-    (λ x. x.lane.net) (λ x. is_early x.lane.heard) (λ x. x.lane.outcome) _ _ _ _ c.in-Ok.ensures.nets
-    c.give_back.ensures.nets c.serve_lanes-accepted.ensures.count
-    c.serve_lanes-accepted.ensures.worked
-
-pub returns-clause-complete : goal.returns-clause-complete
-returns-clause-complete g c none =
-    subst (ServesAllCleanOr (meanings g.N.Net.link g.N.Net.place g.N.Net.faults g.N.Poller.poll_faults) c.args.outgoing.plan
-    c.give_back.new.more.items) (sym c.answer.ensures.served)
-    (complete_of (meanings g.N.Net.link g.N.Net.place g.N.Net.faults g.N.Poller.poll_faults) c.args.outgoing.plan
-    (λ x. x.lane.net) (λ x. is_early x.lane.heard) (λ x. x.lane.outcome) _ _ _ _ c.in-Ok.ensures.nets
-    c.give_back.ensures.nets c.serve_lanes-accepted.ensures.count
-    c.serve_lanes-accepted.ensures.worked c.serve_lanes-accepted.result (never_early g c) _ _ g.N.Net.accepted _
-    c.serve_lanes-accepted.ensures.accepted c.conclude-outcome.ensures none)
-
 pub returns-clause-handed : goal.returns-clause-handed
 returns-clause-handed g c =
-    subst (AreHanded c.args.outgoing.plan.conns (length c.args.more.now.items) c.args.handed.now
-    c.list_handovers.new.handed) (sym c.answer.ensures.served)
-    (handed_of c.args.outgoing.plan (λ x. x.lane.put) (λ x. x.lane.outcome) (λ x. x.lane.net) _ _ _
-    c.in-Ok.ensures.nets c.serve_lanes-accepted.ensures.count (handed_as g c)
-    c.args.handed.now c.list_handovers.new.handed c.list_handovers.ensures c.serve_lanes-accepted.result _
-    c.conclude-outcome.ensures)
+    subst (AreHanded (members g.N.Poller g.N.Net) c.args.outgoing.plan.conns c.give_back.new.more.items
+    c.args.handed.now c.list_handovers.new.handed) (sym c.answer.ensures.served)
+    (subst (λ l. AreHanded (members g.N.Poller g.N.Net) c.args.outgoing.plan.conns l c.args.handed.now
+    c.list_handovers.new.handed c.conclude-outcome.result) (sym c.give_back.ensures.nets)
+    (handed_of (λ x. x.lane.line) (λ x. x.lane.worker) (λ x. x.lane.put) (λ x. in_hand x.lane.heard)
+    (λ x. is_early x.lane.heard) (λ x. x.lane.left) _ _ _ _ _ (shown_of g c) c.args.outgoing.plan
+    (λ x. x.lane.outcome) c.in-Ok.workers.items (workers_are g c) c.serve_lanes-accepted.ensures.received
+    (members g.N.Poller g.N.Net) (λ x. x.lane.net) c.serve_lanes-accepted.ensures.worked (few_sent g c)
+    c.args.handed.now c.list_handovers.new.handed c.list_handovers.ensures c.serve_lanes-accepted.result
+    c.conclude-outcome.result c.conclude-outcome.ensures))
 
 pub returns-clause-links : goal.returns-clause-links
 returns-clause-links g c =
-    subst (AccountsForLinks (meanings g.N.Net.link g.N.Net.place g.N.Net.faults g.N.Poller.poll_faults) (g.N.Net.accepted c.args.net.now) (g.N.Net.accepted c.serve_lanes-accepted.new.net)
-    c.args.more.now.items c.give_back.new.more.items c.args.handed.now c.list_handovers.new.handed)
-    (sym c.answer.ensures.served)
-    (subst (λ l. AccountsForLinks (meanings g.N.Net.link g.N.Net.place g.N.Net.faults g.N.Poller.poll_faults) (g.N.Net.accepted c.args.net.now)
+    subst (AccountsForLinks (members g.N.Poller g.N.Net) (g.N.Net.accepted c.args.net.now)
+    (g.N.Net.accepted c.serve_lanes-accepted.new.net) c.args.more.now.items c.give_back.new.more.items
+    c.args.handed.now c.list_handovers.new.handed) (sym c.answer.ensures.served)
+    (subst (λ l. AccountsForLinks (members g.N.Poller g.N.Net) (g.N.Net.accepted c.args.net.now)
     (g.N.Net.accepted c.serve_lanes-accepted.new.net) l c.give_back.new.more.items c.args.handed.now
     c.list_handovers.new.handed c.conclude-outcome.result) c.in-Ok.ensures.nets
-    (subst (λ l. AccountsForLinks (meanings g.N.Net.link g.N.Net.place g.N.Net.faults g.N.Poller.poll_faults) (g.N.Net.accepted c.args.net.now)
+    (subst (λ l. AccountsForLinks (members g.N.Poller g.N.Net) (g.N.Net.accepted c.args.net.now)
     (g.N.Net.accepted c.serve_lanes-accepted.new.net) (map (λ x. x.lane.net) c.in-Ok.workers.items) l
     c.args.handed.now c.list_handovers.new.handed c.conclude-outcome.result) (sym c.give_back.ensures.nets)
     (accounts_for (λ x. x.lane.line) (λ x. x.lane.worker) (λ x. x.lane.put) (λ x. in_hand x.lane.heard)
-    (λ x. is_early x.lane.heard) (λ x. x.lane.left) _ _ _ _ _ (shown_of g c) c.args.outgoing.plan (λ x. x.lane.outcome) c.in-Ok.workers.items
-    (workers_are g c) c.serve_lanes-accepted.ensures.received (meanings g.N.Net.link g.N.Net.place g.N.Net.faults g.N.Poller.poll_faults) (λ x. x.lane.net)
-    c.serve_lanes-accepted.ensures.worked (few_sent g c) _ _ c.args.handed.now c.list_handovers.new.handed
-    c.serve_lanes-accepted.ensures.sent.accepted c.list_handovers.ensures c.serve_lanes-accepted.result
-    c.conclude-outcome.result c.conclude-outcome.ensures)))
-
-pub returns-clause-accepts : goal.returns-clause-accepts
-returns-clause-accepts g c =
-    subst (AreAccepted c.args.outgoing.plan.conns (g.N.Net.accepted c.args.net.now)
-    (g.N.Net.accepted c.serve_lanes-accepted.new.net)) (sym c.answer.ensures.served)
-    (accepts_of (meanings g.N.Net.link g.N.Net.place g.N.Net.faults g.N.Poller.poll_faults) c.args.outgoing.plan
-    (λ x. x.lane.outcome) _ c.args.net.now _ g.N.Net.accepted _ _
-    c.serve_lanes-accepted.ensures.accepted c.conclude-outcome.ensures)
+    (λ x. is_early x.lane.heard) (λ x. x.lane.left) _ _ _ _ _ (shown_of g c) c.args.outgoing.plan
+    (λ x. x.lane.outcome) c.in-Ok.workers.items (workers_are g c) c.serve_lanes-accepted.ensures.received
+    (members g.N.Poller g.N.Net) (λ x. x.lane.net) c.serve_lanes-accepted.ensures.worked (few_sent g c) _ _
+    c.args.handed.now c.list_handovers.new.handed c.serve_lanes-accepted.ensures.sent.accepted
+    c.list_handovers.ensures c.serve_lanes-accepted.result c.conclude-outcome.result c.conclude-outcome.ensures)))
 
 -- what the pass that is answered shows
 settled_of : (g : Over) (c : goal.After-drop-outgoing-2 g)

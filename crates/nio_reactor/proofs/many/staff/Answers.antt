@@ -1,7 +1,7 @@
 use Rattle.std.proofs.Common.{◌≡◌, ◌<◌, ◌++◌, [], false, All, length, map, ◌∙◌, ap, sym, arith, refl, subst}
 use Rattle.std.proofs.lemmas.List.{length-map}
 use Rattle.std.proofs.lemmas.List.Elements.{All-tail}
-use Rattle.nio_link.specs.Places.{unused}
+use Rattle.nio_link.specs.Places.{never_asked}
 use Rattle.nio_serve.proofs.Watching.{longer}
 use Rattle.nio_serve.specs.Serving.{listener}
 use Rattle.nio_reactor.proofs.Lists.{all_more, at_end, first_has, first_taken, moved, nets_end, rest_has}
@@ -74,8 +74,8 @@ loop-worker-preserved g c =
           c.remove-in-loop-worker-2.new.self.items c.args.passes.items worker c.remove-in-loop-worker-2.result
           c.loop-worker.invariant.passes first_pass refl c.push_reserved.ensures.items;
       left = omega (arith, ap length first, ap length first_pass, c.loop-worker.invariant.left);
-      unasked = All-tail (λ net. g.N.Net.place net listener ≡ unused) c.remove.result c.remove.new.self.items
-          (subst (All (λ net. g.N.Net.place net listener ≡ unused)) first c.loop-worker.invariant.unasked);
+      unasked = All-tail (λ net. g.N.Net.place net listener ≡ never_asked) c.remove.result c.remove.new.self.items
+          (subst (All (λ net. g.N.Net.place net listener ≡ never_asked)) first c.loop-worker.invariant.unasked);
       doors = all_more (λ x. x.lane.door ≡ Unasked) c.loop-worker.workers.items c.push_reserved.new.self.items worker
           c.push_reserved.ensures.items c.loop-worker.invariant.doors c.over-lane.ensures.door;
       on_time = all_more (λ x. is_early x.lane.heard ≡ false) c.loop-worker.workers.items

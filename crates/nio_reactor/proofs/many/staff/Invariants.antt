@@ -1,5 +1,5 @@
 use Rattle.std.proofs.Common.{◌≡◌, ◌+◌, ◌++◌, [], false, All, length, map, vec_capacity}
-use Rattle.nio_link.specs.Places.{unused}
+use Rattle.nio_link.specs.Places.{never_asked}
 use Rattle.nio_serve.specs.Serving.{listener}
 use Rattle.nio_reactor.specs.Receiving.{is_early}
 use Rattle.nio_reactor.specs.declared.door.Door.TheVariants.{Unasked}
@@ -15,7 +15,7 @@ invariant-loop-worker g l = record {
   new : All (λ e. e.carried ≡ []) l.lines.items;
   passes : map (λ x. x.pass) l.workers.items ++ l.passes.items ≡ l.fn.passes.items;
   left : length l.passes.items ≡ length l.more.items;
-  unasked : All (λ net. g.N.Net.place net listener ≡ unused) l.more.items;
+  unasked : All (λ net. g.N.Net.place net listener ≡ never_asked) l.more.items;
   doors : All (λ x. x.lane.door ≡ Unasked) l.workers.items;
   on_time : All (λ x. is_early x.lane.heard ≡ false) l.workers.items;
   room : vec_capacity l.more ≡ vec_capacity l.fn.more;

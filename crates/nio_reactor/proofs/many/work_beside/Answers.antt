@@ -1,16 +1,18 @@
 use Rattle.std.proofs.Common.{◌≡◌, false, All, length, subst, sym, arith}
 use Rattle.std.proofs.lemmas.Grind.{common_steps}
 use Rattle.nio_reactor.proofs.Lists.{slice_back}
-use Rattle.nio_reactor.specs.Many.{meanings}
+use Rattle.nio_reactor.proofs.Nets.{members}
 use Rattle.nio_reactor.specs.Receiving.{HaveReceived, is_early}
 use Rattle.nio_reactor.specs.Seats.{HaveSeats, LeaveSeats}
-use Rattle.nio_reactor.specs.Working.{HaveWorked, IsFresh}
+use Rattle.nio_link.specs.Nets.{view_of}
+use Rattle.nio_serve.specs.Serving.{IsFresh}
+use Rattle.nio_reactor.specs.Working.{HaveWorked}
 use Rattle.nio_reactor.specs.declared.door.Door.TheVariants.{Unasked}
 use Rattle.nio_reactor.proofs.many.work_beside.Goals as goal
 
 pub work_all-requires-clause-fresh : goal.work_all-requires-clause-fresh
 work_all-requires-clause-fresh g c κs within =
-    subst (All (λ x. IsFresh (meanings g.N.Net.link g.N.Net.place g.N.Net.faults g.N.Poller.poll_faults) x.lane.net))
+    subst (All (λ x. IsFresh (view_of (members g.N.Poller g.N.Net) x.lane.net)))
     (sym c.as_mut_slice.ensures.value) c.requires.nets
 
 pub work_all-requires-clause-doors : goal.work_all-requires-clause-doors
@@ -30,8 +32,8 @@ returns-clause-worked g c =
     let len_is : c.args.workers.now.len ≡ length c.args.workers.now.items
     = grind (arith, common_steps, c.as_mut_slice.ensures.len, c.as_mut_slice.ensures.value) in
     slice_back c.args.workers.now.items _ c.work_all.new.workers c.args.workers.now.len
-    (HaveWorked (meanings g.N.Net.link g.N.Net.place g.N.Net.faults g.N.Poller.poll_faults) c.args.plan
-    (λ x. x.lane.net) (λ x. is_early x.lane.heard) (λ x. x.lane.outcome)) c.as_mut_slice.ensures.value len_is
+    (HaveWorked (members g.N.Poller g.N.Net) c.args.plan (λ x. x.lane.net) (λ x. x.lane.put)
+    (λ x. is_early x.lane.heard) (λ x. x.lane.outcome)) c.as_mut_slice.ensures.value len_is
     c.work_all.ensures.count c.work_all.ensures.worked
 
 pub returns-clause-received : goal.returns-clause-received

@@ -1,11 +1,13 @@
 use Rattle.std.proofs.Common.{◌≡◌, ◌+◌, false, length, arith, rules, subst, sym}
 use Rattle.nio_reactor.proofs.Lists.{at_each, of_each}
 use Rattle.nio_reactor.specs.Dealing.{share}
-use Rattle.nio_reactor.specs.Many.{meanings}
+use Rattle.nio_reactor.proofs.Nets.{members}
 use Rattle.nio_reactor.specs.Placing.{caller}
 use Rattle.nio_reactor.specs.Receiving.{HasReceived, is_early}
 use Rattle.nio_reactor.specs.Seats.{IsNewcomer, LeavesSeat, channels_for, deal_of}
-use Rattle.nio_reactor.specs.Working.{HasWorked, IsFresh}
+use Rattle.nio_link.specs.Nets.{view_of}
+use Rattle.nio_serve.specs.Serving.{IsFresh}
+use Rattle.nio_reactor.specs.Working.{HasWorked}
 use Rattle.nio_reactor.specs.declared.door.Door.TheVariants.{Unasked}
 use Rattle.nio_reactor.proofs.working.work_all.Goals as goal
 
@@ -16,7 +18,7 @@ each_beside-requires-clause-accepts g c κs within = λ i p few is. (
     λ none. absurd (omega (arith, none, c.max-threads.ensures)),
     omega (arith, c.requires.few, c.max-threads.ensures),
     c.requires.conns,
-    at_each (λ x. IsFresh (meanings g.N.Net.link g.N.Net.place g.N.Net.faults g.N.Poller.poll_faults) x.lane.net)
+    at_each (λ x. IsFresh (view_of (members g.N.Poller g.N.Net) x.lane.net))
         c.args.workers.now i p.now c.requires.fresh few is,
     at_each (λ x. x.lane.door ≡ Unasked) c.args.workers.now i p.now c.requires.doors few is,
     at_each (λ x. is_early x.lane.heard ≡ false) c.args.workers.now i p.now c.requires.on_time few is,
@@ -34,8 +36,8 @@ each_beside-requires-clause-accepts g c κs within = λ i p few is. (
 pub returns-clause-worked : goal.returns-clause-worked
 returns-clause-worked g c v x less =
     let changed = (c.each_beside.ensures.changes v x less).1 in
-    of_each (λ n a b. HasWorked (meanings g.N.Net.link g.N.Net.place g.N.Net.faults g.N.Poller.poll_faults)
-    c.args.plan.target (share n v c.args.plan.conns) a.lane.net b.lane.net (is_early b.lane.heard) b.lane.outcome)
+    of_each (λ n a b. HasWorked (members g.N.Poller g.N.Net)
+    c.args.plan.target (share n v c.args.plan.conns) a.lane.net b.lane.net b.lane.put (is_early b.lane.heard) b.lane.outcome)
     c.max-threads.result (length c.args.workers.now) changed.argument.now changed.after_call.now _ _
     (omega (arith, less, c.max-threads.ensures)) changed.argument_is changed.left changed.call.0
 

@@ -1,10 +1,8 @@
-use Rattle.std.proofs.Common.{◌≡◌, ◌+◌, ◌∷◌, [], All, length, sym, subst, ap, ◌∙◌}
+use Rattle.std.proofs.Common.{◌+◌, ◌∷◌, [], All, length, sym, subst, ap, ◌∙◌}
 use Rattle.std.proofs.lemmas.List.{length-append}
 use Rattle.std.proofs.lemmas.List.Elements.{All-push}
-use Rattle.nio_base.specs.declared.numbers.ChanNo.{ChanNo}
-use Rattle.nio_link.specs.Links.{IsUnused}
-use Rattle.nio_link.specs.Places.{places_after, unused}
-use Rattle.nio_link.specs.Slots.{carried_at}
+use Rattle.nio_link.specs.MemoryNet.{shown}
+use Rattle.nio_serve.specs.Serving.{IsFresh}
 use Rattle.nio_reactor_tests.proofs.nets.nets_of.Goals as goal
 
 pub loop-preserved : goal.loop-preserved
@@ -13,10 +11,7 @@ loop-preserved c =
     record {
       count = ap length is
           ∙ (length-append c.loop.nets.items (c.in_ok-net.net ∷ []) ∙ ap (λ n. n + 1) c.loop.invariant.count);
-      links = subst (All (λ net. (chan : ChanNo) → IsUnused (carried_at net.net.slots chan))) (sym is)
-          (All-push (λ net. (chan : ChanNo) → IsUnused (carried_at net.net.slots chan)) c.loop.nets.items c.in_ok-net.net
-          c.loop.invariant.links c.in_ok-net.ensures.fresh);
-      places = subst (All (λ net. (chan : ChanNo) → places_after net.net.changes chan ≡ unused)) (sym is)
-          (All-push (λ net. (chan : ChanNo) → places_after net.net.changes chan ≡ unused) c.loop.nets.items
-          c.in_ok-net.net c.loop.invariant.places c.in_ok-net.ensures.unasked);
+      fresh = subst (All (λ net. IsFresh (shown net.net))) (sym is)
+          (All-push (λ net. IsFresh (shown net.net)) c.loop.nets.items c.in_ok-net.net c.loop.invariant.fresh
+          c.in_ok-net.ensures);
     }

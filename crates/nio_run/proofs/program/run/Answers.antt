@@ -1,25 +1,25 @@
 use Rattle.std.proofs.Common.{ℕ, map, refl, subst, sym}
 use Rattle.std.specs.String.{string_bytes}
+use Rattle.nio_link.specs.Nets.{view_of}
 use Rattle.nio_script.specs.Output.{WritesOrFails}
 use Rattle.nio_script.specs.declared.status.Status.TheVariants as status
 use Rattle.nio_run.specs.declared.program.TheConstants.{PROGRAM_LIMITS}
 use Rattle.nio_relay.specs.declared.plan.ProxyPlan.{ProxyPlan}
 use Rattle.nio_command.specs.declared.way.ProxyWay.TheVariants.{Many}
-use Rattle.nio_reactor.specs.Many.{meanings}
 use Rattle.nio_run.specs.Load.{DoesLoad}
 use Rattle.nio_run.specs.Many.{DoesMany}
 use Rattle.nio_relay.specs.declared.plan.PacketPlan.{PacketPlan}
 use Rattle.nio_run.specs.Packets.{DoesPackets}
-use Rattle.nio_run.specs.Proxy.{AcceptsInOrder, DoesProxy, HasOneNet}
+use Rattle.nio_run.specs.Proxy.{DoesProxy, HasOneNet}
 use Rattle.nio_run.specs.Relays.{EndsRelay}
 use Rattle.nio_load.specs.Load.{EndsLoad}
+use Rattle.nio_reactor.proofs.Nets.{members}
 use Rattle.nio_run.proofs.Legal.{writes_legal}
 use Rattle.nio_run.proofs.ByWorkers.{unserved_many}
 use Rattle.nio_run.proofs.Named.{begins_packets, begins_proxy, its_packets, its_plan, its_rounds, its_way, its_workers}
 use Rattle.nio_run.proofs.Named.{no_packets, no_plan, not_many, packets_no_proxy, proxy_no_packets, takes_none}
-use Rattle.nio_run.proofs.Serves.{none_accepted}
+use Rattle.nio_run.proofs.Serves.{unserved}
 use Rattle.nio_run.proofs.Unsent.{unsent}
-use Rattle.nio_run.proofs.Unserved.{unserved}
 use Rattle.nio_run.proofs.program.run.Goals as goal
 
 pub returns-in-Ok-Script-clause-legal : goal.returns-in-Ok-Script-clause-legal
@@ -45,10 +45,8 @@ returns-in-Err-Usage-clause-too_long g c =
 
 pub returns-in-Ok-Proxy-clause-proxy : goal.returns-in-Ok-Proxy-clause-proxy
 returns-in-Ok-Proxy-clause-proxy g c = λ plan way says one.
-    subst (λ (p : ProxyPlan). DoesProxy g.K.Sink p (g.N.Net.link c.serve.result.net)
-    (g.N.Net.place c.serve.result.net)
-    (g.N.Net.faults c.args.net) (g.N.Net.faults c.serve.result.net) (g.N.Poller.poll_faults c.args.net)
-    (g.N.Poller.poll_faults c.serve.result.net) c.args.output.now c.serve.new.output c.serve.result.status)
+    subst (λ (p : ProxyPlan). DoesProxy g.K.Sink p (view_of (members g.N.Poller g.N.Net) c.args.net) (view_of (members g.N.Poller g.N.Net) c.serve.result.net)
+    c.args.output.now c.serve.new.output c.serve.result.status)
     (its_plan c.in-Ok-Proxy.field-0 c.in-Ok-Proxy.plan plan c.in-Ok-Proxy.way way c.in-Ok-Proxy.field-0-is
     (c.in-Ok-Proxy.ensures.proxy_only plan way says))
     (c.serve.ensures.proxy (subst HasOneNet (sym
@@ -57,8 +55,7 @@ returns-in-Ok-Proxy-clause-proxy g c = λ plan way says one.
 
 pub returns-in-Ok-Proxy-clause-many : goal.returns-in-Ok-Proxy-clause-many
 returns-in-Ok-Proxy-clause-many g c = λ plan workers says.
-    subst (λ (p : ProxyPlan). DoesMany g.K.Sink
-    (meanings g.N.Net.link g.N.Net.place g.N.Net.faults g.N.Poller.poll_faults) p workers c.args.net
+    subst (λ (p : ProxyPlan). DoesMany g.K.Sink (members g.N.Poller g.N.Net) p workers c.args.net
     c.serve.result.net c.args.more.now.items c.serve.new.more.items c.args.output.now c.serve.new.output
     c.serve.result.status)
     (its_plan c.in-Ok-Proxy.field-0 c.in-Ok-Proxy.plan plan c.in-Ok-Proxy.way (Many workers) c.in-Ok-Proxy.field-0-is
@@ -108,14 +105,12 @@ returns-in-Err-Usage-clause-many g c =
 
 pub returns-clause-proxy : goal.returns-clause-proxy
 returns-clause-proxy g c = λ plan way says one.
-    unserved g.K.Sink plan (g.N.Net.link c.args.net) (g.N.Net.place c.args.net) (g.N.Net.faults c.args.net)
-    (g.N.Poller.poll_faults c.args.net) c.args.output.now c.requires.fresh c.requires.unasked
+    unserved g.K.Sink plan (view_of (members g.N.Poller g.N.Net) c.args.net) c.args.output.now c.requires.fresh
 
 pub returns-clause-many : goal.returns-clause-many
 returns-clause-many g c = λ plan workers says.
-    unserved_many (meanings g.N.Net.link g.N.Net.place g.N.Net.faults g.N.Poller.poll_faults) c.args.more.now.items
-    c.requires.more_fresh c.requires.more_unasked g.K.Sink plan workers c.args.net c.args.output.now c.requires.fresh
-    c.requires.unasked
+    unserved_many (members g.N.Poller g.N.Net) plan c.args.more.now.items c.requires.more workers c.args.net c.requires.fresh g.K.Sink
+    c.args.output.now
 
 pub returns-in-Ok-Timed-clause-timed : goal.returns-in-Ok-Timed-clause-timed
 returns-in-Ok-Timed-clause-timed g c = λ words.
@@ -187,24 +182,4 @@ pub returns-clause-packets : goal.returns-clause-packets
 returns-clause-packets g c = λ plan says.
     unsent g.K.Sink plan (g.D.PacketNet.traffic c.args.packets.now) (g.D.PacketNet.place c.args.packets.now)
     (g.D.PacketNet.packet_faults c.args.packets.now) (g.D.Poller.poll_faults c.args.packets.now) c.args.output.now
-    c.requires.client_unused c.requires.target_unused c.requires.client_unbound c.requires.target_unbound
-
-pub returns-in-Ok-Proxy-clause-accepts : goal.returns-in-Ok-Proxy-clause-accepts
-returns-in-Ok-Proxy-clause-accepts g c = λ plan way says.
-    subst (λ (p : ProxyPlan). AcceptsInOrder p.conns (g.N.Net.accepted c.args.net)
-    (g.N.Net.accepted c.serve.result.net) c.serve.result.status)
-    (its_plan c.in-Ok-Proxy.field-0 c.in-Ok-Proxy.plan plan c.in-Ok-Proxy.way way c.in-Ok-Proxy.field-0-is
-    (c.in-Ok-Proxy.ensures.proxy_only plan way says)) c.serve.ensures.accepts
-
-pub returns-in-Err-Usage-clause-accepts : goal.returns-in-Err-Usage-clause-accepts
-returns-in-Err-Usage-clause-accepts g c = λ plan way says. absurd
-    (no_plan c.in-Err-Usage.field-0 plan way c.in-Err-Usage.field-0-is
-    (c.in-Err-Usage.ensures.proxy_only plan way says))
-
-pub returns-in-Ok-Packets-clause-accepts : goal.returns-in-Ok-Packets-clause-accepts
-returns-in-Ok-Packets-clause-accepts g c = λ plan way says. absurd
-    (packets_no_proxy c.in-Ok-Packets.field-0 c.in-Ok-Packets.plan plan way c.in-Ok-Packets.field-0-is
-    (c.in-Ok-Packets.ensures.proxy_only plan way says))
-
-pub returns-clause-accepts : goal.returns-clause-accepts
-returns-clause-accepts g c = λ plan way says. none_accepted plan.conns (g.N.Net.accepted c.args.net)
+    c.requires.client_unused c.requires.target_unused c.requires.client_free c.requires.target_free

@@ -3,7 +3,7 @@ use Rattle.nio_serve.proofs.link.pass_ends.Goals as goal
 
 pub returns-clause-client : goal.returns-clause-client
 returns-clause-client g c =
-    let apart = c.requires.apart in
+    let apart = c.requires.apart.0 in
     let work = c.pass_end.ensures.work in
     let passed = end_moved (work.links c.args.links.client apart apart) (work.places c.args.links.client apart apart)
     (end_source c.args.back.now c.pass_end.ensures.source c.requires.client) in

@@ -3,17 +3,18 @@ use Rattle.nio_relay.specs.Flow.{ends, takes}
 use Rattle.nio_serve.specs.Passing.{Passes, flow_after_read}
 use Rattle.nio_serve.specs.Relaying.{KeepsSource}
 use Rattle.nio_serve.proofs.Carrying.{passes_read, passes_then, passes_write}
+use Rattle.nio_serve.proofs.Ways.{members}
 use Rattle.nio_serve.proofs.link.pass_once.Goals as goal
 
 pub returns-in_err-count-clause-passes : goal.returns-in_err-count-clause-passes
 returns-in_err-count-clause-passes g c =
     let did = c.in_err-count.ensures in
-    passes_read g.W.Way c.args.source c.args.sink _ _ _ _ c.requires.apart did.work
+    passes_read (members g.W.Polls g.W.Way) c.args.source c.args.sink _ _ _ _ c.requires.apart did.work
     (did.source c.args.direction.now) (record { written = refl; shut = refl }) did.stands did.write
 
 pub returns-in-Bytes-clause-passes : goal.returns-in-Bytes-clause-passes
 returns-in-Bytes-clause-passes g c =
-    let n = g.W.Way in
+    let n = members g.W.Polls g.W.Way in
     let f = c.args.direction.now in
     let a = c.args.source in
     let buffer = c.read_new.new.scratch in
@@ -34,7 +35,7 @@ returns-in-Bytes-clause-passes g c =
 
 pub returns-in-End-clause-passes : goal.returns-in-End-clause-passes
 returns-in-End-clause-passes g c =
-    let n = g.W.Way in
+    let n = members g.W.Polls g.W.Way in
     let f = c.args.direction.now in
     let a = c.args.source in
     let buffer = c.read_new.new.scratch in
@@ -50,7 +51,7 @@ returns-in-End-clause-passes g c =
 
 pub returns-in-NotYet-clause-passes : goal.returns-in-NotYet-clause-passes
 returns-in-NotYet-clause-passes g c =
-    let n = g.W.Way in
+    let n = members g.W.Polls g.W.Way in
     let f = c.args.direction.now in
     let a = c.args.source in
     let buffer = c.read_new.new.scratch in

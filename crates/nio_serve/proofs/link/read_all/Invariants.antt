@@ -2,6 +2,7 @@ use Rattle.std.proofs.Common.{◌≡◌, IsTrue}
 use Rattle.nio_base.specs.Ops.{is_within}
 use Rattle.nio_serve.specs.Nets.{Works}
 use Rattle.nio_serve.specs.Relaying.{KeepsSource, SameSink}
+use Rattle.nio_serve.proofs.Ways.{members}
 use Rattle.nio_serve.proofs.link.read_all.Given as goal
 
 abbrev pub invariant-loop : goal.invariant-loop
@@ -9,9 +10,9 @@ invariant-loop g l = record {
   source : KeepsSource l.fn.outgoing l.outgoing (g.W.Way.link l.fn.net l.own) (g.W.Way.place l.fn.net l.own)
       (g.W.Way.link l.net l.own) (g.W.Way.place l.net l.own);
   sink : SameSink l.fn.outgoing l.outgoing;
-  work : Works g.W.Way l.own l.own l.fn.net l.net;
+  work : Works (members g.W.Polls g.W.Way) l.own l.own l.fn.net l.net;
   stands : g.W.Way.place l.net l.own ≡ g.W.Way.place l.fn.net l.own;
   calm : g.W.Way.faults l.net l.own ≡ g.W.Way.faults l.fn.net l.own;
-  read : IsTrue (is_within 1 (g.W.Way.ready l.net l.own));
-  write : IsTrue (is_within 4 (g.W.Way.ready l.fn.net l.own)) → IsTrue (is_within 4 (g.W.Way.ready l.net l.own));
+  read : IsTrue (is_within 1 (g.W.Polls.ready l.net l.own.number));
+  write : IsTrue (is_within 4 (g.W.Polls.ready l.fn.net l.own.number)) → IsTrue (is_within 4 (g.W.Polls.ready l.net l.own.number));
 }

@@ -1,6 +1,6 @@
 use Rattle.std.proofs.Common.{refl}
-use Rattle.nio_serve.proofs.Calls.{drawn_is_unregistered}
-use Rattle.nio_serve.proofs.Idle.{drawn_unpinned}
+use Rattle.nio_board.proofs.Calls.{drawn_is_unregistered}
+use Rattle.nio_board.proofs.Idle.{drawn_unpinned}
 use Rattle.nio_serve.proofs.serving.open_board.Goals as goal
 
 pub open-requires-clause-ready : goal.open-requires-clause-ready

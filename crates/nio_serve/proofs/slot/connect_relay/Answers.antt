@@ -6,24 +6,24 @@ use Rattle.nio_serve.proofs.slot.connect_relay.Goals as goal
 
 pub returns-in-Some-Err-clause-slot : goal.returns-in-Some-Err-clause-slot
 returns-in-Some-Err-clause-slot g c =
-    let made = c.in-Some-Err.ensures.made in
+    let made = c.in-Some-Err.ensures in
     let hung = c.hang_up.ensures in
     unmade_slot c.args.relay c.args.to _ _ _ _ _ _ _ _ c.requires.stage c.requires.slot
     (hung.quiet.links c.args.links.client ∙ made.links c.args.links.client)
     (hung.quiet.links c.args.links.target ∙ made.links c.args.links.target) c.in-Some-Err.field-0-0 _ _
-    (made.places c.args.links.client c.requires.apart)
+    (made.places c.args.links.client c.requires.apart.0)
     (made.place ∙ ap (λ r. place_after_connect r c.args.to) c.in-Some-Err.field-0-is) hung.client
     (hung.quiet.places c.args.links.target) hung.target
 
 pub returns-in-Some-Err-clause-begins : goal.returns-in-Some-Err-clause-begins
 returns-in-Some-Err-clause-begins g c =
-    let made = c.in-Some-Err.ensures.made in
+    let made = c.in-Some-Err.ensures in
     let hung = c.hang_up.ensures in
     record {
       links = λ k. hung.quiet.links k ∙ made.links k;
       places = λ k not_client not_target. hung.places k not_client not_target ∙ made.places k not_target;
       faults = λ k not_target. hung.quiet.faults k ∙ made.others k not_target;
-      ready = λ k. hung.quiet.ready k ∙ made.ready k;
+      ready = λ k not_client not_target. hung.ready k not_client not_target ∙ made.ready_else k not_target;
       later = λ k. omega (
         arith,
         hung.quiet.faults k,

@@ -11,7 +11,3 @@ returns-clause-untold g c =
           refl refl,
       left.3,
     ))
-
-pub returns-clause-asked : goal.returns-clause-asked
-returns-clause-asked g c =
-    rw (← c.self.view_is) (λ allowed told. c.read.ensures.asked allowed (rw c.deref_mut.ensures.value told))

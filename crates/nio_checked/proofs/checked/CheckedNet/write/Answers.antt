@@ -10,13 +10,9 @@ returns-clause-untold g c =
     rw (← c.self.view_is) (λ allowed none.
     let left = c.write.ensures.untold allowed (rw c.deref_mut.ensures.value none) in (
       left.0,
-      unchanged _ _ left.1 refl (written_same c.self.inside.told c.write.new.told (left.2 ∙ c.deref_mut.ensures.value))
-          refl refl,
+      unchanged _ _ left.1 refl
+          (written_same c.self.inside.told c.write.new.told (left.2 ∙ c.deref_mut.ensures.value)) refl refl,
     ))
-
-pub returns-clause-asked : goal.returns-clause-asked
-returns-clause-asked g c =
-    rw (← c.self.view_is) (λ allowed told. c.write.ensures.asked allowed (rw c.deref_mut.ensures.value told))
 
 pub returns-clause-told : goal.returns-clause-told
 returns-clause-told g c =
@@ -24,4 +20,4 @@ returns-clause-told g c =
     written c.self.inside.told c.write.new.told
     (omega (arith, c.write.auto.told, c.deref_mut.ensures.len, c.self.inside.told.ok.0))
     (c.write.ensures.told allowed (rw c.deref_mut.ensures.value told)
-    ∙ ap (told_after c.args.chan (ready_after_write (as_failed c.write.result))) c.deref_mut.ensures.value))
+    ∙ ap (told_after c.args.chan.number (ready_after_write (as_failed c.write.result))) c.deref_mut.ensures.value))

@@ -1,4 +1,5 @@
 use Rattle.std.proofs.Common.{◌≡◌, refl}
+use Rattle.nio_datagram.proofs.PlaceLaws.{bind_stands}
 use Rattle.nio_datagram.specs.Datagrams.{state_after_bind}
 use Rattle.nio_datagram.proofs.link.DatagramLink.bind.Goals as goal
 
@@ -9,14 +10,6 @@ returns-in-Unbound-clause-bind g c =
     rw (link, ← c.self.view_is, c.in-Unbound.is) (record {
       made = c.bind_packets-made.result;
       told = c.settle.ensures.told;
-      net = record {
-        cause = c.bind_packets-made.ensures.cause;
-        others = c.bind_packets-made.ensures.others;
-        traffic = c.bind_packets-made.ensures.traffic;
-        ready = c.bind_packets-made.ensures.ready;
-        place = c.bind_packets-made.ensures.place;
-        places = c.bind_packets-made.ensures.places;
-        polls = c.bind_packets-made.ensures.polls;
-      };
+      net = c.bind_packets-made.ensures;
       link = refl;
     })

@@ -1,5 +1,5 @@
 use Rattle.std.proofs.Common.{◌∙◌, refl, sym}
-use Rattle.nio_serve.proofs.Watching.{where_done}
+use Rattle.nio_datagram.proofs.Counting.{where_done}
 use Rattle.nio_datagram.proofs.PassLaws.{none_failed, none_failed_then}
 use Rattle.nio_datagram.proofs.ServeLaws.{moves_none, moves_then, one_rose_from}
 use Rattle.nio_datagram.proofs.serving.Server.run.Goals as goal

@@ -4,11 +4,12 @@ use Rattle.nio_serve.proofs.Promise.{closed_next}
 use Rattle.nio_serve.proofs.Slotting.{client_listener, target_listener}
 use Rattle.nio_serve.proofs.Working.{quiet_then}
 use Rattle.nio_serve.specs.Serving.{listener}
+use Rattle.nio_serve.proofs.Ways.{members}
 use Rattle.nio_serve.proofs.connections.Connections.close_all.Goals as goal
 
 pub loop-number-preserved : goal.loop-number-preserved
 loop-number-preserved g c =
-    let n = g.W.Way in
+    let n = members g.W.Polls g.W.Way in
     let within : c.loop-number.number < length c.args.self.now.slots.items = search rules in
     let closes = c.close_unended.ensures in
     record {

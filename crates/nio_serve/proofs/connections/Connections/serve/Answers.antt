@@ -1,23 +1,25 @@
 use Rattle.std.proofs.Common.{sym, ap, ◌∙◌, ◌+◌, Some, arith}
 use Rattle.nio_base.specs.declared.numbers.Addr.{Addr}
+use Rattle.nio_base.specs.declared.numbers.ChanId.{ChanId}
 use Rattle.nio_link.specs.declared.place.Role.{Role}
 use Rattle.nio_serve.specs.Serving.{listener}
 use Rattle.nio_serve.specs.Slots.{has_ended, has_faulted}
 use Rattle.nio_serve.proofs.Counts.{one_if}
 use Rattle.nio_serve.proofs.Slotting.{few_counted, others_then, serving_told, client_listener, target_listener}
+use Rattle.nio_serve.proofs.Ways.{members}
 use Rattle.nio_serve.proofs.connections.Connections.serve.Goals as goal
 
 pub put-requires-clause-few : goal.put-requires-clause-few
-put-requires-clause-few g c = omega (arith, c.take.ensures.ended, (few_counted c.requires.served).1)
+put-requires-clause-few g c = omega (arith, c.take.ensures.ended, (few_counted c.requires.served).0)
 
 pub put-requires-clause-few_faulted : goal.put-requires-clause-few_faulted
-put-requires-clause-few_faulted g c = omega (arith, c.take.ensures.faulted, (few_counted c.requires.served).2)
+put-requires-clause-few_faulted g c = omega (arith, c.take.ensures.faulted, (few_counted c.requires.served).1)
 
 pub returns-clause-serving : goal.returns-clause-serving
 returns-clause-serving g c =
     let slot = c.follow-followed.new.self in
     let served = c.serve_relay-slot.ensures in
-    serving_told g.W.Way _ slot c.in-Some.relay c.links_of-links.result.client c.links_of-links.result.target c.args.net.now
+    serving_told (members g.W.Polls g.W.Way) _ slot c.in-Some.relay c.links_of-links.result.client c.links_of-links.result.target c.args.net.now
     c.serve_relay-slot.new.net c.args.self.now c.put.new.self
     c.links_of-links.ensures.client c.links_of-links.ensures.target c.requires.served c.in-Some.ensures.taken served.work
     c.put.ensures.slot
@@ -28,13 +30,13 @@ returns-clause-serving g c =
     (c.put.ensures.faulted ∙ ap (λ m. m + one_if (has_faulted (Some slot))) c.take.ensures.faulted)
     (λ f. served.faulty (sym c.follow-followed.ensures.faulted ∙ f))
     (λ f. served.calm (sym c.follow-followed.ensures.faulted ∙ f))
-    (c.follow-followed.ensures.stands ∙ served.stands)
 
 pub returns-clause-ready : goal.returns-clause-ready
 returns-clause-ready g c =
     λ d not_client not_target.
-    c.serve_relay-slot.ensures.work.ready d (λ at. not_client (at ∙ c.links_of-links.ensures.client))
-    (λ at. not_target (at ∙ c.links_of-links.ensures.target))
+    c.serve_relay-slot.ensures.work.ready d
+    (λ at. not_client (at ∙ ap (λ (x : ChanId). x.number) c.links_of-links.ensures.client))
+    (λ at. not_target (at ∙ ap (λ (x : ChanId). x.number) c.links_of-links.ensures.target))
 
 pub returns-clause-listens : goal.returns-clause-listens
 returns-clause-listens g c =

@@ -1,19 +1,18 @@
 use Rattle.std.proofs.Common.{◌≡◌, IsTrue}
-use Rattle.nio_link.specs.Links.{IsSameBut}
 use Rattle.nio_base.specs.Ops.{is_within}
-use Rattle.nio_serve.specs.Board.{IsSameSeat}
+use Rattle.nio_board.specs.Board.{IsSameSeat}
 use Rattle.nio_serve.specs.Serving.{listener}
 use Rattle.nio_serve.specs.Watching.{WatchesAll}
 use Rattle.nio_serve.specs.Slots.{Serving}
+use Rattle.nio_serve.proofs.Ways.{members}
 use Rattle.nio_serve.proofs.proxy.Proxy.accept_all.Given as goal
 
 abbrev pub invariant-loop : goal.invariant-loop
 invariant-loop g l = record {
-  serving : Serving g.W.Way l.fn.net l.net l.fn.self.connections l.self.connections;
+  serving : Serving (members g.W.Polls g.W.Way) l.fn.net l.net l.fn.self.connections l.self.connections;
   listens : g.W.Way.place l.net listener ≡ g.W.Way.place l.fn.net listener;
   port : l.self.port ≡ l.fn.self.port;
-  ready : IsSameBut listener (g.W.Way.ready l.fn.net) (g.W.Way.ready l.net);
-  accepts : IsTrue (is_within 16 (g.W.Way.ready l.net listener));
+  accepts : IsTrue (is_within 16 (g.W.Polls.ready l.net listener.number));
   seat : IsSameSeat l.fn.self.board l.self.board;
   watched : WatchesAll l.self.board l.self.connections;
 }

@@ -4,11 +4,12 @@ use Rattle.nio_serve.specs.Serving.{listener}
 use Rattle.nio_serve.proofs.Slotting.{serving_none, serving_then, serving_quiet, cause_on, listens_on}
 use Rattle.nio_serve.proofs.Watching.{seat_none, seat_then, watched_on, watching_then, where_done}
 use Rattle.nio_serve.proofs.Working.{role_stays}
+use Rattle.nio_serve.proofs.Ways.{members}
 use Rattle.nio_serve.proofs.proxy.Proxy.serve.Goals as goal
 
 pub loop-init : goal.loop-init
 loop-init g c = record {
-  serving = serving_none g.W.Way c.args.net.now c.args.self.now.connections c.requires.served;
+  serving = serving_none (members g.W.Polls g.W.Way) c.args.net.now c.args.self.now.connections c.requires.served;
   listens = c.requires.listens;
   role = refl;
   seat = seat_none _;
@@ -20,7 +21,7 @@ returns-then-is_err-clause-watching g c = watching_then c.loop.invariant.seat c.
 
 pub returns-then-is_err-clause-serving : goal.returns-then-is_err-clause-serving
 returns-then-is_err-clause-serving g c =
-    serving_then g.W.Way _ _ _ _ _ _ c.loop.invariant.serving c.round-served.ensures.serving
+    serving_then (members g.W.Polls g.W.Way) _ _ _ _ _ _ c.loop.invariant.serving c.round-served.ensures.serving
 
 pub returns-then-is_err-clause-listens : goal.returns-then-is_err-clause-listens
 returns-then-is_err-clause-listens g c =
@@ -31,13 +32,13 @@ returns-then-is_err-clause-role g c = ap (λ (p : Place). p.role) c.round-served
 
 pub returns-then-is_err-clause-cause : goal.returns-then-is_err-clause-cause
 returns-then-is_err-clause-cause g c failed =
-    cause_on g.W.Way _ _ _ _ _ c.loop.invariant.serving (c.round-served.ensures.cause failed)
+    cause_on (members g.W.Polls g.W.Way) _ _ _ _ _ c.loop.invariant.serving (c.round-served.ensures.cause failed)
 
 pub loop-preserved : goal.loop-preserved
 loop-preserved g c = record {
   serving =
-      serving_quiet g.W.Way _ _ _ _ _ _
-      (serving_then g.W.Way _ _ _ _ _ _ c.loop.invariant.serving c.round-served.ensures.serving)
+      serving_quiet (members g.W.Polls g.W.Way) _ _ _ _ _ _
+      (serving_then (members g.W.Polls g.W.Way) _ _ _ _ _ _ c.loop.invariant.serving c.round-served.ensures.serving)
       c.stop_listening.ensures.quiet c.stop_listening.ensures.places c.stop_listening.ensures.connections;
   listens = c.stop_listening.ensures.listens;
   role = role_stays _ _ (c.stop_listening.ensures.quiet.places listener)

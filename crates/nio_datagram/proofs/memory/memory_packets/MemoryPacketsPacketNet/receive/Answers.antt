@@ -1,7 +1,8 @@
-use Rattle.nio_datagram.proofs.PacketLaws.{receive_traffic}
+use Rattle.nio_datagram.proofs.PacketLaws.{receives}
 use Rattle.nio_datagram.proofs.memory.memory_packets.MemoryPacketsPacketNet.receive.Goals as goal
 
-pub returns-clause-traffic : goal.returns-clause-traffic
-returns-clause-traffic c =
-    rw (c.receive_packet.ensures.answer, c.receive_packet.ensures.buffer, c.receive_packet.ensures.after)
-    (receive_traffic c.args.self.now.sides c.args.chan c.args.into.now)
+pub returns-clause-call : goal.returns-clause-call
+returns-clause-call c =
+    let made = c.receive_packet.ensures in
+    rw (made.answer, made.buffer, made.after)
+    (receives c.args.self.now c.args.chan c.args.into.now (rw made.answer at made.short))

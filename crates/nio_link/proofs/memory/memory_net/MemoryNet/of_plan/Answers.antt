@@ -1,4 +1,7 @@
-use Rattle.std.proofs.Common.{◌≡◌, ◌+◌, [], ◌∷◌, ◌++◌, length, length-append, sym, ap, arith}
+use Rattle.std.proofs.Common.{◌≡◌, ◌+◌, ◌*◌, [], ◌∷◌, ◌++◌, length, length-append, sym, ap, arith}
+use Rattle.std.proofs.lemmas.Grind.{common_steps}
+use Rattle.nio_link.proofs.Hand.{length_occupants, none_spent}
+use Rattle.nio_link.proofs.Last.{last_first}
 use Rattle.nio_link.proofs.MemoryLaws.{clients_fresh, targets_fresh, slots_more, length_ends, ends_more}
 use Rattle.nio_link.specs.NetPlans.{client_end, target_end}
 use Rattle.nio_link.proofs.memory.memory_net.MemoryNet.of_plan.Goals as goal
@@ -21,8 +24,16 @@ loop-peer-preserved c =
     }
 
 pub invariant_of-result : goal.invariant_of-result
-invariant_of-result c = (
-  rw (c.from_vec.ensures.items, c.loop-peer.invariant.clients) (clients_fresh 0 c.loop-peer.yielded),
-  rw (c.from_vec-2.ensures.items, c.loop-peer.invariant.targets) (targets_fresh 0 c.loop-peer.yielded),
-  search (arith),
-)
+invariant_of-result c = record {
+  fresh_clients = rw (c.from_vec.ensures.items, c.loop-peer.invariant.clients) (clients_fresh 0 c.loop-peer.yielded);
+  fresh_targets = rw (c.from_vec-2.ensures.items, c.loop-peer.invariant.targets) (targets_fresh 0 c.loop-peer.yielded);
+  spent = none_spent c.loop-peer.slots.items _ (grind (arith, common_steps));
+  last = rw (c.in_ok-log.ensures.changes, c.loop-peer.invariant.slots) (last_first (2 * length c.loop-peer.yielded + 1));
+  held = rw (c.in_ok-log.ensures.occupants) (omega (
+    arith,
+    length_occupants c.len-2.result,
+    length_occupants c.len-3.result,
+    c.loop-peer.slots.ok.0,
+  ));
+  room = grind (arith, common_steps);
+}

@@ -1,5 +1,5 @@
-use Rattle.nio_link.proofs.MemoryLaws.{close_carried}
+use Rattle.nio_link.proofs.MemoryLaws.{closes}
 use Rattle.nio_link.proofs.memory.memory_net.MemoryNetNet.close.Goals as goal
 
-pub returns-clause-links : goal.returns-clause-links
-returns-clause-links c = rw c.close_channel.ensures.after (close_carried c.args.self.now.slots c.args.chan)
+pub returns-clause-call : goal.returns-clause-call
+returns-clause-call c = rw c.close_channel.ensures (closes c.args.self.now c.args.chan)

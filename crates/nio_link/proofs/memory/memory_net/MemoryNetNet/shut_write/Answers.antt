@@ -1,22 +1,12 @@
-use Rattle.nio_link.proofs.MemoryLaws.{cause_after, cause_else, shut_carried, shut_else}
-use Rattle.nio_link.specs.Slots.{connected, slot_at, shut_answer}
+use Rattle.std.proofs.Common.{ap}
+use Rattle.nio_link.proofs.MemoryLaws.{shuts}
+use Rattle.nio_link.specs.Places.{is_standing}
+use Rattle.nio_link.specs.declared.place.Standing.{Standing}
 use Rattle.nio_link.proofs.memory.memory_net.MemoryNetNet.shut_write.Goals as goal
 
-pub returns-clause-cause : goal.returns-clause-cause
-returns-clause-cause c =
-    rw (c.shut_link.ensures.answer, c.shut_link.ensures.after)
-    (cause_after (shut_answer (connected (slot_at c.args.self.now.slots c.args.chan)))
-    c.args.self.now.faulted c.args.chan)
+pub returns-clause-call : goal.returns-clause-call
+returns-clause-call c =
+    rw (c.shut_link.ensures.answer, c.shut_link.ensures.after) (shuts c.args.self.now c.args.chan)
 
-pub returns-clause-others : goal.returns-clause-others
-returns-clause-others c =
-    rw c.shut_link.ensures.after
-    (cause_else (shut_answer (connected (slot_at c.args.self.now.slots c.args.chan)))
-    c.args.self.now.faulted c.args.chan)
-
-pub returns-clause-link : goal.returns-clause-link
-returns-clause-link c =
-    rw (c.shut_link.ensures.answer, c.shut_link.ensures.after) (shut_carried c.args.self.now.slots c.args.chan)
-
-pub returns-clause-links : goal.returns-clause-links
-returns-clause-links c = rw c.shut_link.ensures.after (shut_else c.args.self.now.slots c.args.chan)
+pub returns-clause-there : goal.returns-clause-there
+returns-clause-there c = c.shut_link.ensures.there (ap (λ (s : Standing). is_standing s) c.requires)

@@ -1,0 +1,7 @@
+mod BoardCalls
+pub mod Calls
+mod Dealt
+pub mod Idle
+mod Polling
+mod Resolved
+mod TableCalls

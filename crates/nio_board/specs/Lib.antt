@@ -1,0 +1,5 @@
+pub mod Board
+pub mod BoardCalls
+pub mod BoardLaws
+pub mod Called
+pub mod Polling

@@ -1,5 +1,0 @@
-use Rattle.nio_serve.proofs.Dealt.{comes_back}
-use Rattle.nio_serve.proofs.laws.deal_law.Goals as goal
-
-pub returns : goal.returns
-returns c = record { back = comes_back }
