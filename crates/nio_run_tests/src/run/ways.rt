@@ -93,11 +93,6 @@ const ROWS: &[Row] = &[
         workers: 1,
     },
     Row {
-        name: "group of two",
-        words: &["--way=group", "--workers=2"],
-        workers: 2,
-    },
-    Row {
         name: "many, one",
         words: &["--way=many", "--workers=1"],
         workers: 1,
