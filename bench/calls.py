@@ -140,7 +140,7 @@ HEAD = """# The public calls
 - **Java**: the method's name in the class that the section is about, or with its own class.
 - **Refuses**: the [error](#errors), with those of its variants that the call's contract names where it doesn't name all;
   what is given back; or `None`, where that is an answer. A method of `Caller` that answers a bool or a number answers
-  false or 0 where a name was never made; `cancel`, `wakeup` and `interrupt` answer true in every other case.
+  false or 0 where a name was never made; `cancel` and `interrupt` answer true in every other case.
 - **requires**: the call may be made only where its contract's `requires` is proved; every other call takes any values.
 - **waits**: the call may wait, and so takes a handle of `Wait`; every other call returns.
 - **memory**: the call takes memory. Where that lacks, the answer says so, as `AllocError`, `Memory` or what it gives

@@ -59,7 +59,8 @@ static double least_selection(nio_caller *caller, uint32_t selector, size_t read
 
 static void wakeup(nio_caller *caller, nio_key key)
 {
-    must(nio_wakeup(caller, key.selector));
+    bool pending;
+    must(nio_wakeup(caller, key.selector, &pending));
 }
 
 static void ready_ops(nio_caller *caller, nio_key key)

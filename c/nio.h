@@ -54,7 +54,10 @@
  *
  * Waiting
  *
- * - After nio_wakeup, nio_interrupt and nio_shut ring what the selecting thread waits for: the library can't.
+ * - After nio_wakeup, nio_interrupt and nio_shut ring what the selecting thread waits for: the library can't. C may
+ *   leave the ring out after a nio_wakeup that found a wakeup pending, if it rings after each one that found none, and if
+ *   the selecting thread tells (nio_told) after each poll that took a ring in. For whoever left the pending wakeup has
+ *   rung then, or will ring; and the next told finds it.
  * - The first poll after nio_begin doesn't wait. A poll after NIO_AGAIN may.
  */
 #ifndef NIO_H
@@ -189,8 +192,9 @@ nio_status nio_selected_keys(nio_caller *caller, uint32_t selector, nio_key *key
 /* The same, and takes them out of the selected set, one after the other. At NO_ROOM none is taken out. */
 nio_status nio_take_all_selected(nio_caller *caller, uint32_t selector, nio_key *keys, size_t room, size_t *count);
 
-/* Leaves a wakeup: the selection in progress, or else the next one, doesn't wait: Selector.wakeup. NO_SUCH_SELECTOR. */
-nio_status nio_wakeup(nio_caller *caller, uint32_t selector);
+/* Leaves a wakeup: the selection in progress, or else the next one, doesn't wait: Selector.wakeup. *pending says
+ * whether one was pending already, which no selection had used up. NO_SUCH_SELECTOR. */
+nio_status nio_wakeup(nio_caller *caller, uint32_t selector, bool *pending);
 
 /* Sets the interrupt status of the caller with this number: Thread.interrupt. NO_SUCH_CALLER. */
 nio_status nio_interrupt(nio_caller *caller, uint32_t number);
@@ -321,7 +325,7 @@ nio_status nio_attachment(nio_caller *caller, nio_key key, uint64_t *attachment)
 
 /*
  * To come: a number that was given away and comes back to the caller that gave it; a told that lists which keys it
- * marked and removed; a wakeup that says whether one was pending.
+ * marked and removed.
  */
 
 #ifdef __cplusplus

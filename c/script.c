@@ -310,7 +310,7 @@ static bool say_selector(nio_caller *caller, char **words)
         if (has_selector(caller, words[1]) && is_done(nio_leave(caller, selector)))
             fputs("left", stdout);
     } else if (is_word(words, "wakeup"))
-        print_ok(nio_wakeup(caller, selector));
+        print_ok(nio_wakeup(caller, selector, &answer));
     else if (is_word(words, "close")) {
         if (is_done(nio_shut(caller, selector, &answer)))
             fputs(answer ? "closing" : "already", stdout);

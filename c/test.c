@@ -83,7 +83,7 @@ static void empty_handles(void)
     EXPECT(NIO_EMPTY_HANDLE, nio_keys(&none, 0, &key, 1, &count));
     EXPECT(NIO_EMPTY_HANDLE, nio_selected_keys(&none, 0, &key, 1, &count));
     EXPECT(NIO_EMPTY_HANDLE, nio_take_all_selected(&none, 0, &key, 1, &count));
-    EXPECT(NIO_EMPTY_HANDLE, nio_wakeup(&none, 0));
+    EXPECT(NIO_EMPTY_HANDLE, nio_wakeup(&none, 0, &answer));
     EXPECT(NIO_EMPTY_HANDLE, nio_interrupt(&none, 0));
     EXPECT(NIO_EMPTY_HANDLE, nio_interrupted(&none, &answer));
     EXPECT(NIO_EMPTY_HANDLE, nio_take_list(&none, 0, &answer));
@@ -274,11 +274,18 @@ static void selections(nio_caller *caller, nio_caller *other)
     EXPECT(NIO_DONE, nio_take_all_selected(other, 0, list, 2, &count));
     HOLD(count == 0);
 
-    EXPECT(NIO_DONE, nio_wakeup(other, 0));
-    EXPECT(NIO_NO_SUCH_SELECTOR, nio_wakeup(other, 2));
+    EXPECT(NIO_DONE, nio_wakeup(other, 0, &answer));
+    HOLD(!answer);
+    EXPECT(NIO_DONE, nio_wakeup(caller, 0, &answer));
+    HOLD(answer);
+    EXPECT(NIO_NO_SUCH_SELECTOR, nio_wakeup(other, 2, &answer));
     EXPECT(NIO_DONE, nio_begin(caller, 0, 0));
     EXPECT(NIO_DONE, nio_told(caller, 0, &ready, 0, false, false, &selected));
     HOLD(selected.count == 0 && selected.why == NIO_WHY_WOKEN);
+    EXPECT(NIO_DONE, nio_wakeup(other, 0, &answer));
+    HOLD(!answer);
+    EXPECT(NIO_DONE, nio_begin_now(caller, 0));
+    EXPECT(NIO_DONE, nio_told(caller, 0, &ready, 0, false, false, &selected));
     EXPECT(NIO_DONE, nio_interrupt(other, 0));
     EXPECT(NIO_NO_SUCH_CALLER, nio_interrupt(other, 3));
     EXPECT(NIO_DONE, nio_begin(caller, 0, 0));

@@ -125,10 +125,11 @@ static void call_on_selector(worker *w)
     nio_caller *me = &w->caller;
     nio_key keys[KEYS];
     size_t count;
+    bool pending;
     uint32_t selector = draw(w, 4) == 0;
     const unsigned none = BIT(NIO_NO_SUCH_SELECTOR), listed = none | BIT(NIO_CLOSED_SELECTOR) | BIT(NIO_NO_ROOM);
     switch (draw(w, 5)) {
-    case 0: ALLOW(nio_wakeup(me, selector), none); break;
+    case 0: ALLOW(nio_wakeup(me, selector, &pending), none); break;
     case 1: ALLOW(nio_interrupt(me, draw(w, WORKERS + 2)), BIT(NIO_NO_SUCH_CALLER)); break;
     case 2: ALLOW(nio_keys(me, selector, keys, draw(w, KEYS + 1), &count), listed); break;
     case 3: ALLOW(nio_take_all_selected(me, selector, keys, draw(w, KEYS + 1), &count), listed); break;

@@ -61,7 +61,6 @@ typedef struct place {
 typedef struct table {
     cell cells[CELLS];
     _Alignas(64) atomic_bool changed; /* since a selection began: what it asks for */
-    atomic_bool rung;                 /* the bell rings, or is about to */
     _Alignas(64) uint32_t selector;
     int poll;
     int bell;
@@ -141,19 +140,16 @@ static jint answer_or(nio_status status, jint value)
 static void ring(table *t)
 {
     uint64_t one = 1;
-    if (!atomic_exchange(&t->rung, true)) {
-        ssize_t written = write(t->bell, &one, sizeof one);
-        (void)written; /* it fails only where the bell rings already */
-    }
+    ssize_t written = write(t->bell, &one, sizeof one);
+    (void)written; /* it fails only where the bell rings already */
 }
 
-/* First the bell is emptied, then the flag; the table is told after both, so what rings later is found later. */
+/* The table is told after the bell was emptied: so a wakeup whose ring this takes in is found then. */
 static void silence(table *t)
 {
     uint64_t rings;
     ssize_t count = read(t->bell, &rings, sizeof rings);
     (void)count;
-    atomic_store(&t->rung, false);
 }
 
 /* ---- making and letting go ---- */
@@ -613,8 +609,10 @@ NATIVE(void, wakeup)
     cell *c = take(t, env);
     if (c == NULL)
         return;
-    nio_wakeup(&c->caller, t->selector);
-    ring(t);
+    bool pending = false;
+    nio_wakeup(&c->caller, t->selector, &pending);
+    if (!pending)
+        ring(t);
     give(c);
 }
 

@@ -59,9 +59,12 @@ impl Caller {
         }
     }
 
-    /// Leaves a wakeup: the selection in progress, or else the next one, doesn't wait. `Selector.wakeup`.
-    pub fn wakeup(&mut self, selector: Selector) -> Result<(), NoSuchSelector> {
-        answered(unsafe { raw::nio_wakeup(&mut self.handle, selector.0) })
+    /// Leaves a wakeup: the selection in progress, or else the next one, doesn't wait. `Selector.wakeup`. Says whether
+    /// one was pending already, which no selection had used up.
+    pub fn wakeup(&mut self, selector: Selector) -> Result<bool, NoSuchSelector> {
+        let mut pending = false;
+        answered(unsafe { raw::nio_wakeup(&mut self.handle, selector.0, &mut pending) })?;
+        Ok(pending)
     }
 
     /// Sets the interrupt status of the caller with this number: `Thread.interrupt`.

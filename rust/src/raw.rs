@@ -113,7 +113,7 @@ extern "C" {
         room: usize,
         count: *mut usize,
     ) -> nio_status;
-    pub fn nio_wakeup(caller: *mut nio_caller, selector: u32) -> nio_status;
+    pub fn nio_wakeup(caller: *mut nio_caller, selector: u32, pending: *mut bool) -> nio_status;
     pub fn nio_interrupt(caller: *mut nio_caller, number: u32) -> nio_status;
     pub fn nio_interrupted(caller: *mut nio_caller, interrupted: *mut bool) -> nio_status;
     pub fn nio_take_list(caller: *mut nio_caller, selector: u32, taken: *mut bool) -> nio_status;

@@ -109,14 +109,14 @@ pub(crate) fn write_selected(
     }
 }
 
-// Writes whether the call began to close the selector, where there is such a selector.
-pub(crate) fn write_began(answer: Option<bool>, began: &mut bool) -> Status
+// Writes what the call said, where there is such a selector.
+pub(crate) fn write_said(answer: Option<bool>, said: &mut bool) -> Status
     ensures status { result ≡ status_found status.NoSuchSelector (is_some answer) }
-    ensures began { began.new ≡ unwrap_or answer began.old }
+    ensures said { said.new ≡ unwrap_or answer said.old }
 {
     match answer {
-        Some(is_first) => {
-            *began = is_first;
+        Some(is_so) => {
+            *said = is_so;
             Status::Done
         }
         None => Status::NoSuchSelector,

@@ -10,7 +10,7 @@ ghost use Rattle.nio_c.specs.Statuses.{begin_refusal, call_refusal, done, select
 ghost use Rattle.nio_c.specs.Values.{as_told, sel_no};
 ghost use Rattle.nio_c.specs.declared.status.Status.TheVariants as status;
 
-use crate::answers::{done_or, finished, write_began, write_selected};
+use crate::answers::{done_or, finished, write_said, write_selected};
 use crate::handle::Handle;
 use crate::kept::Sharer;
 use crate::lists::write_asked;
@@ -170,7 +170,7 @@ pub extern "C" fn nio_shut(
     };
     let answer = kept.caller.shut(SelNo(selector));
     caller.put(kept);
-    write_began(answer, began).code()
+    write_said(answer, began).code()
 }
 
 /// Ends the closing that the caller began: the selector is closed then.

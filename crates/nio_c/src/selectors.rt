@@ -1,7 +1,7 @@
 //! The exports on selectors, and those on interrupts.
-ghost use Rattle.std.specs.Prelude.{◌≡◌, ⊤, Err, false, is_some, length};
+ghost use Rattle.std.specs.Prelude.{◌≡◌, ⊤, Err, None, false, is_some, length, unwrap_or};
 ghost use Rattle.std.specs.Result.{result_unwrap_or};
-ghost use Rattle.nio_caller.specs.NamedCalls.{Calls, Does, MayRefuse, OnCaller, OnSelector};
+ghost use Rattle.nio_caller.specs.NamedCalls.{Calls, Does, Gives, MayRefuse, OnCaller, OnSelector};
 ghost use Rattle.nio_caller.specs.declared.refusal.CallError.TheVariants.{NoSuchSelector};
 ghost use Rattle.nio_select.specs.Listed.{ok_seen};
 ghost use Rattle.nio_steps.specs.KeyCalls.{find_selector_plan};
@@ -14,7 +14,7 @@ ghost use Rattle.nio_c.specs.Statuses.{call_refusal, done, list_refusal, spent_r
 ghost use Rattle.nio_c.specs.Values.{caller_no, key_of, sel_no};
 ghost use Rattle.nio_c.specs.declared.status.Status.TheVariants as status;
 
-use crate::answers::write_selector;
+use crate::answers::{write_said, write_selector};
 use crate::handle::Handle;
 use crate::lists::write_listed;
 use crate::status::{Status, found};
@@ -100,20 +100,26 @@ pub extern "C" fn nio_selected_keys(
     write_listed(answer, keys, count).code()
 }
 
-/// Leaves a wakeup at the selector: Java's `wakeup`. C rings.
+/// Leaves a wakeup at the selector: Java's `wakeup`. Writes whether one was pending already. C rings.
 #[unsafe(no_mangle)]
-pub extern "C" fn nio_wakeup(alloc: Global, caller: &mut Handle, selector: u32) -> u32
+pub extern "C" fn nio_wakeup(
+    alloc: Global,
+    caller: &mut Handle,
+    selector: u32,
+    pending: &mut bool,
+) -> u32
     ensures { Exports
-        (Calls (λ l. OnSelector l (sel_no selector) false (Does (Completes (wakeup_plan (sel_no selector))))))
-        (status_found status.NoSuchSelector) (λ answer. ⊤) ⊤
+        (Calls (λ l. OnSelector l (sel_no selector) None (Gives (Completes (wakeup_plan (sel_no selector))))))
+        (λ answer. status_found status.NoSuchSelector (is_some answer))
+        (λ answer. pending.new ≡ unwrap_or answer pending.old) (pending.new ≡ pending.old)
         caller.old caller.new result }
 {
     let Some(mut kept) = caller.take(alloc) else {
         return Status::EmptyHandle.code();
     };
-    let is_there = kept.caller.wakeup(SelNo(selector), &NoBell);
+    let answer = kept.caller.wakeup(SelNo(selector), &NoBell);
     caller.put(kept);
-    found(is_there, Status::NoSuchSelector).code()
+    write_said(answer, pending).code()
 }
 
 /// Sets the interrupt status of the caller with this number: Java's `Thread.interrupt`. C rings.

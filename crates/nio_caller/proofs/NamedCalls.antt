@@ -8,7 +8,10 @@ use Rattle.nio_history.specs.PassViews.{PassView}
 use Rattle.nio_history.specs.declared.act.Act.{Act}
 use Rattle.nio_poller.proofs.Trying.{then_nothing}
 use Rattle.nio_select.specs.InHand.{HeldSelector}
+use Rattle.nio_select.specs.KeyChanges.{TakesNote}
 use Rattle.nio_select.specs.Listed.{ok_seen}
+use Rattle.nio_select.specs.declared.changes.KeyChange.{KeyChange}
+use Rattle.nio_steps.specs.declared.looked.LookedKey.{LookedKey}
 use Rattle.nio_steps.proofs.CallLaws.{call_as}
 use Rattle.nio_steps.proofs.WaitingLaws.{then_call}
 use Rattle.nio_steps.specs.Calls.{CallClause}
@@ -202,3 +205,13 @@ pub made_on : {R : Type 0} {w v : Words} {p q : Pass} {me : CallerNo} {before af
 made_on {v = v} {p = p} {q = q} {me = me} {after = after} {later = later} at s Shape answer is call others =
     subst (λ (x : Acting). CallsOn s (λ _. Shape) x (acting v q me after later) answer) is
     (record { same = record { table = refl; number = refl }; others = others; call = call_at at p q call })
+
+-- a lister took note of what such a call did
+pub noted_at : {L : Type 0} {noted : L → KeyChange → L} {asked : List LookedKey} {w v : Words} {p : Pass} {me : CallerNo}
+    {before : List (Option HeldSelector)} {progress : Progress} {c0 : Acting} {x y : L} → w ≡ v → (q : Pass)
+    (after : List (Option HeldSelector)) (later : Progress) → acting v p me before progress ≡ c0
+    → TakesNote noted asked me (view w p) (view w q) x y
+    → TakesNote noted asked c0.number (sees c0) (sees (acting v q me after later)) x y
+noted_at {noted = noted} {asked = asked} {v = v} {p = p} {me = me} {x = x} {y = y} at q after later is here =
+    subst (λ (c : Acting). TakesNote noted asked c.number (sees c) (sees (acting v q me after later)) x y) is
+    (subst (λ (u : Words). TakesNote noted asked me (view u p) (view u q) x y) at here)

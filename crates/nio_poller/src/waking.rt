@@ -18,16 +18,18 @@ use std::sync::Wait;
 use std::thread;
 
 /// Leaves a wakeup at the selector and rings: the selection that is in progress there, or else the next one, doesn't
-/// wait. Java's `wakeup`. It succeeds on a closed selector too.
+/// wait. Java's `wakeup`. It succeeds on a closed selector too. Says whether one was pending there already: no
+/// selection had used it up.
 #[tactic(auto, unfolding(nio_steps::specs::SelectCalls::wakeup_plan))]
-pub fn wakeup<B: Bell>(w: &Words, p: &mut Pass, me: CallerNo, sel: SelNo, bell: &B)
+pub fn wakeup<B: Bell>(w: &Words, p: &mut Pass, me: CallerNo, sel: SelNo, bell: &B) -> bool
     requires ready { IsReady w.now p.old me }
     requires selector { HasSelector (view w.now p.old) sel }
     ensures call { CallClause me (Completes (wakeup_plan sel)) (view w.now p.old) (view w.now p.new) result }
     ensures ready { IsReady w.now p.new me }
 {
-    w.wake(p, me, sel);
+    let pending = w.wake(p, me, sel);
     bell.ring();
+    pending
 }
 
 /// Closes the selector: Java's `close`. Refuses further selections and registrations, rings, waits until nobody

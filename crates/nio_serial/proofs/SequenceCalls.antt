@@ -686,7 +686,7 @@ module _ (l : Limits) (past : List Event) (now : Progress) (me : CallerNo) (fit 
       selected-ends o s answer acts run legal names at
   ends o (table_call (wakeup s) answer) acts plain run legal names at may =
       quiet-line o (call.Wakeup s) reply.«Ok» acts names legal
-      (made-run (wakeup_plan s) (λ _. reply.«Ok») (λ _. now) acts tt run) at
+      (made-run (wakeup_plan s) (λ _. reply.«Ok») (λ _. now) acts answer run) at
   ends o (table_call (interrupt n) answer) acts plain run legal names at may =
       quiet-line o (call.Interrupt n) reply.«Ok» acts (interrupt-below n acts run legal) legal
       (made-run (interrupt_plan n) (λ _. reply.«Ok») (λ _. now) acts tt run) at

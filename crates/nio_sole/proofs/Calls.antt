@@ -860,8 +860,8 @@ module _ (l : Limits) (me : CallerNo) (now : Progress) where
   leads_plan (call.Told s elapsed pairs) on = leads_told s elapsed pairs (own_selection now me s) on refl
   leads_plan (call.Failed s) on = leads_failed s (own_selection now me s) on refl
   leads_plan (call.Wakeup s) on =
-      leads_ask (wakeup_plan s) (λ _. table_call (wakeup s) tt) (λ _. reply.«Ok»)
-      (λ o acts a run at. quiet l me now o (table_call (wakeup s) tt) acts run tt at)
+      leads_ask (wakeup_plan s) (λ a. table_call (wakeup s) a) (λ _. reply.«Ok»)
+      (λ o acts a run at. quiet l me now o (table_call (wakeup s) a) acts run tt at)
   leads_plan (call.Close s) on = leads_close s
   leads_plan (call.CloseEnd s) on = leads_close_end s
   leads_plan (call.Keys s) on = leads_keys s

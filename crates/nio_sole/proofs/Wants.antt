@@ -1,5 +1,5 @@
 -- A line that lacks memory, as a whole run of a plan with a reply that nobody gives.
-use Rattle.std.proofs.Common.{◌≡◌, ◌⊎◌, ⊎_elim, ℕ, Bool, true, false, Option, Some, Ok, Err, List, [], ◌++◌, refl, sym}
+use Rattle.std.proofs.Common.{◌≡◌, ⊎_elim, ℕ, Bool, true, false, Option, Some, Ok, Err, List, [], ◌++◌, refl, sym}
 use Rattle.std.proofs.Common.{ap, ◌∙◌, subst, append_assoc}
 use Rattle.std.specs.Prelude.{None}
 use Rattle.nio_base.specs.declared.numbers.CallerNo.{CallerNo}

@@ -152,13 +152,13 @@ selected_key_gathers_bits : Setup Stream 5 (Begins t1 WithoutWaiting 5
 unfolding plans
 selected_key_gathers_bits = (refl, (refl, (refl, (refl, (refl, (refl, (refl, (refl, (refl, tt)))))))))
 
-wakeups_act_as_one : Setup Source 1 (Says t2 (wakeup_plan s0) tt (Says t2 (wakeup_plan s0) tt (Begins t1 Wait 1
+wakeups_act_as_one : Setup Source 1 (Says t2 (wakeup_plan s0) false (Says t2 (wakeup_plan s0) true (Begins t1 Wait 1
     (Says t1 (told_plan (sel Wait 1) [] false) (done (record { count = 0; why = Woken })) (Begins t1 Wait 1
     (Says t1 (told_plan (sel Wait 1) [] false) (again (sel Wait 1)) End)))))) opening
 unfolding plans
 wakeups_act_as_one = (refl, (refl, (refl, (refl, (refl, (refl, (refl, (refl, (refl, (refl, tt))))))))))
 
-select_now_uses_wakeup_up : Setup Source 1 (Says t2 (wakeup_plan s0) tt (Begins t1 WithoutWaiting 1
+select_now_uses_wakeup_up : Setup Source 1 (Says t2 (wakeup_plan s0) false (Begins t1 WithoutWaiting 1
     (Says t1 (told_plan (sel WithoutWaiting 1) [] false) (done (record { count = 0; why = Now })) (Begins t1 Wait 1
     (Says t1 (told_plan (sel Wait 1) [] false) (again (sel Wait 1)) End))))) opening
 unfolding plans
@@ -184,7 +184,7 @@ closing_in_two_parts : Setup Source 1 (Begins t1 Wait 1 (Says t2 (shut_plan s0) 
     (Says t1 (told_plan (sel Wait 1) [] false) (done (record { count = 0; why = Closed }))
     (Says t2 (try_finish_plan s0) closed (Says t1 (is_valid_plan k0) false
     (Says t1 (try_begin_plan s0 WithoutWaiting None false) (Err BeginError.ClosedSelector)
-    (Says t2 (wakeup_plan s0) tt (Says t2 (shut_plan s0) already_closed
+    (Says t2 (wakeup_plan s0) false (Says t2 (shut_plan s0) already_closed
     (Says t1 (is_registered_plan limits c0) false End)))))))))) opening
 unfolding plans
 closing_in_two_parts =
@@ -224,7 +224,7 @@ unfolding plans
 told_unasked_bits = (refl, (refl, (refl, (refl, (refl, (refl, (refl, tt)))))))
 
 failed_poll_keeps_wakeup : Setup Source 1
-    (Says t2 (wakeup_plan s0) tt (Begins t1 Wait 1 (Says t1 (leave_plan (sel Wait 1)) tt (Begins t1 Wait 1
+    (Says t2 (wakeup_plan s0) false (Begins t1 Wait 1 (Says t1 (leave_plan (sel Wait 1)) tt (Begins t1 Wait 1
     (Says t1 (told_plan (sel Wait 1) [] false) (done (record { count = 0; why = Woken })) End))))) opening
 unfolding plans
 failed_poll_keeps_wakeup = (refl, (refl, (refl, (refl, (refl, (refl, (refl, (refl, (refl, tt)))))))))
@@ -272,7 +272,7 @@ small_limits =
 
 -- no memory for the looked list: the turn is free, and a wakeup stays
 no_memory : Setup Source 1
-    (Says t2 (wakeup_plan s0) tt (Says t1 (try_begin_plan s0 Wait None true) (Err BeginError.Memory) (Begins t2 Wait 1
+    (Says t2 (wakeup_plan s0) false (Says t1 (try_begin_plan s0 Wait None true) (Err BeginError.Memory) (Begins t2 Wait 1
     (Says t2 (told_plan (sel Wait 1) [] false) (done (record { count = 0; why = Woken })) End)))) opening
 unfolding plans
 no_memory = (refl, (refl, (refl, (refl, (refl, (refl, (refl, (refl, tt))))))))

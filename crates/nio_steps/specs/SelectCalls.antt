@@ -309,10 +309,9 @@ ListsSelected s acts answer = Completes (selected_keys_plan s (list_lacks_memory
 
 -- ---- waking and interrupting
 
-unfoldable pub wakeup_plan : SelNo → Plan (Unit {0})
-wakeup_plan s = do
-  wake s
-  reply tt
+-- whether a wakeup was pending already
+unfoldable pub wakeup_plan : SelNo → Plan Bool
+wakeup_plan s = wake s
 
 unfoldable pub interrupt_plan : CallerNo → Plan (Unit {0})
 interrupt_plan target = do

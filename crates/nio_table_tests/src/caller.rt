@@ -33,11 +33,12 @@ fn a_caller_is_parted_and_joined(rt: HostRuntime) -> Result<(), Fail> {
     let given_twice = first.split(CallerNo(1)).is_ok();
     first.join(second);
     // The first caller may use what the second one made, and holds both numbers.
-    first.wakeup(sel, &NoBell);
+    let pending = first.wakeup(sel, &NoBell);
     let second = first.split(CallerNo(1))?;
     let mut again = Caller::new(&words, second.into_pass(), CallerNo(1));
     let found = again.find_selector(0);
     assert!(rt; !given_twice);
+    assert!(rt; pending == Some(false));
     assert!(rt; found == Some(sel));
     Ok(())
 }

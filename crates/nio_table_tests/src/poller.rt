@@ -142,10 +142,7 @@ fn answer<R: Wait, P: Poller>(
         OnSelector::SelectToldFor(ms) => {
             Reply::Selected(select_told_for(rt, alloc, w, p, ZERO, &mut on, poller, ms))
         }
-        OnSelector::Wakeup => {
-            wakeup(w, p, ZERO, S, bell);
-            Reply::Done
-        }
+        OnSelector::Wakeup => Reply::Flag(wakeup(w, p, ZERO, S, bell)),
         OnSelector::Interrupt => {
             interrupt(w, p, ZERO, ZERO, bell);
             Reply::Done
@@ -169,30 +166,31 @@ fn calls_on_a_selector(rt: HostRuntime) -> Result<(), Fail> {
     };
     let rows = [
         (OnSelector::SelectNow, nothing(Why::Now), 0),
-        (OnSelector::Wakeup, Reply::Done, 1),
+        (OnSelector::Wakeup, Reply::Flag(false), 1),
         // The poll fails, and the wakeup stays.
         (
             OnSelector::Select,
             Reply::Selected(Err(SelectError::PollFault)),
             1,
         ),
-        (OnSelector::Select, nothing(Why::Woken), 1),
+        (OnSelector::Wakeup, Reply::Flag(true), 2),
+        (OnSelector::Select, nothing(Why::Woken), 2),
         (
             OnSelector::SelectFor(-1),
             Reply::Selected(Err(SelectError::NegativeTimeout)),
-            1,
+            2,
         ),
-        (OnSelector::SelectFor(5), nothing(Why::Elapsed), 1),
-        (OnSelector::Interrupt, Reply::Done, 2),
-        (OnSelector::Select, nothing(Why::Interrupted), 2),
-        (OnSelector::Interrupted, Reply::Flag(true), 2),
-        (OnSelector::Interrupted, Reply::Flag(false), 2),
-        (OnSelector::Close, Reply::Flag(true), 3),
-        (OnSelector::Close, Reply::Flag(false), 4),
+        (OnSelector::SelectFor(5), nothing(Why::Elapsed), 2),
+        (OnSelector::Interrupt, Reply::Done, 3),
+        (OnSelector::Select, nothing(Why::Interrupted), 3),
+        (OnSelector::Interrupted, Reply::Flag(true), 3),
+        (OnSelector::Interrupted, Reply::Flag(false), 3),
+        (OnSelector::Close, Reply::Flag(true), 4),
+        (OnSelector::Close, Reply::Flag(false), 5),
         (
             OnSelector::Select,
             Reply::Selected(Err(SelectError::ClosedSelector)),
-            4,
+            5,
         ),
     ];
     for (call, reply, rings) in rows {
@@ -221,13 +219,13 @@ fn how_long_polls_may_wait(rt: HostRuntime) -> Result<(), Fail> {
         ),
         (OnSelector::SelectFor(-1), negative, None),
         // No ring is left: what is pending stands in the table alone, and no poll waits.
-        (OnSelector::Wakeup, Reply::Done, None),
+        (OnSelector::Wakeup, Reply::Flag(false), None),
         (
             OnSelector::SelectFor(0),
             nothing(Why::Woken),
             Some(Mode::Now),
         ),
-        (OnSelector::Wakeup, Reply::Done, None),
+        (OnSelector::Wakeup, Reply::Flag(false), None),
         (
             OnSelector::SelectFor(5),
             nothing(Why::Woken),
@@ -331,7 +329,7 @@ fn what_ends_selections(rt: HostRuntime) -> Result<(), Fail> {
         (OnSelector::SelectFor(5), nothing(Why::Elapsed)),
         // 1
         (OnSelector::SelectNow, nothing(Why::Now)),
-        (OnSelector::Wakeup, Reply::Done),
+        (OnSelector::Wakeup, Reply::Flag(false)),
         // 1
         (OnSelector::SelectTold, nothing(Why::Woken)),
         (OnSelector::Interrupt, Reply::Done),
@@ -348,7 +346,7 @@ fn what_ends_selections(rt: HostRuntime) -> Result<(), Fail> {
         ),
         // 1: the last one
         (OnSelector::SelectToldFor(0), nothing(Why::Elapsed)),
-        (OnSelector::Wakeup, Reply::Done),
+        (OnSelector::Wakeup, Reply::Flag(false)),
         (OnSelector::SelectToldFor(0), nothing(Why::Woken)),
         (OnSelector::Close, Reply::Flag(true)),
         (
@@ -402,7 +400,9 @@ fn ends<R: Wait>(rt: &R, w: &Words, mut p: Pass, bell: &SleeperBell, how: Ending
     ensures { IsPassOf w.now result }
 {
     match how {
-        Ending::Wakes => wakeup(w, &mut p, ONE, S, bell),
+        Ending::Wakes => {
+            wakeup(w, &mut p, ONE, S, bell);
+        }
         Ending::Interrupts => interrupt(w, &mut p, ONE, ZERO, bell),
         Ending::Closes => {
             close(rt, w, &mut p, ONE, S, bell);

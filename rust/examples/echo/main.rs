@@ -204,8 +204,9 @@ fn main() -> Result<(), Box<dyn Error>> {
     let client = thread::spawn(move || -> io::Result<()> {
         let said = say(at, "hello").and_then(|()| say(at, "again"));
         over.store(true, Ordering::SeqCst);
-        waker.wakeup(selector).map_err(io::Error::other)?;
-        bell.ring()?;
+        if !waker.wakeup(selector).map_err(io::Error::other)? {
+            bell.ring()?;
+        }
         said
     });
     while !is_over.load(Ordering::SeqCst) {

@@ -123,7 +123,7 @@ fn on_selector(caller: &mut Caller, line: &Line) -> Result<String, Stop> {
     }
     let selector = line.selector(1)?;
     Ok(match line.word(0)? {
-        "wakeup" => ok(caller.wakeup(selector)),
+        "wakeup" => ok(caller.wakeup(selector).map(|_pending| ())),
         "close" => said(caller.shut(selector).map(|began| if began { "closing" } else { "already" })),
         "close-end" => said(caller.try_finish(selector).map(|()| "closed")),
         "keys" => said(caller.keys(selector).map(listed)),

@@ -1,12 +1,12 @@
 //! The calls of a caller that open, list, wake and close selectors, and those on interrupts.
-ghost use Rattle.std.specs.Prelude.{Err, IfOk, false};
+ghost use Rattle.std.specs.Prelude.{Err, IfOk, None, false};
 ghost use Rattle.nio_history.specs.PassViews.{HasSelector};
 ghost use Rattle.nio_select.specs.Listed.{ok_seen};
 ghost use Rattle.nio_steps.specs.Runs.{Completes};
 ghost use Rattle.nio_steps.specs.SelectCalls.{open_selector_plan, ListsKeys, ListsSelected, wakeup_plan};
 ghost use Rattle.nio_steps.specs.SelectCalls.{ClosesSelector, interrupt_plan, interrupted_plan};
 ghost use Rattle.nio_caller.specs.Callers.{sees};
-ghost use Rattle.nio_caller.specs.NamedCalls.{Calls, Does, OnCaller, OnSelector, MayRefuse};
+ghost use Rattle.nio_caller.specs.NamedCalls.{Calls, Does, Gives, OnCaller, OnSelector, MayRefuse};
 ghost use Rattle.nio_caller.specs.declared.refusal.CallError.TheVariants.{NoSuchSelector};
 
 use super::Caller;
@@ -60,15 +60,22 @@ impl<T: Table> Caller<T> {
     }
 
     /// Leaves a wakeup at the selector and rings: the selection that is in progress there, or else the next one,
-    /// doesn't wait. Java's `wakeup`. It succeeds on a closed selector too. Says whether there is such a selector.
-    pub fn wakeup<B: Bell>(&mut self, sel: SelNo, bell: &B) -> bool
-        ensures call { Calls (λ l. OnSelector l sel false (Does (Completes (wakeup_plan sel)))) self.old self.new result }
+    /// doesn't wait. Java's `wakeup`. It succeeds on a closed selector too. Says whether one was pending there already,
+    /// which no selection had used up; None where there is no such selector.
+    pub fn wakeup<B: Bell>(&mut self, sel: SelNo, bell: &B) -> Option<bool>
+        ensures call { Calls (λ l. OnSelector l sel None (Gives (Completes (wakeup_plan sel)))) self.old self.new result }
     {
         if !self.has_selector(sel) {
-            return false;
+            return None;
         }
-        nio_poller::wakeup(self.table.words(), &mut self.pass, self.number, sel, bell);
-        true
+        let pending = nio_poller::wakeup(
+            self.table.words(),
+            &mut self.pass,
+            self.number,
+            sel,
+            bell,
+        );
+        Some(pending)
     }
 
     /// Closes the selector: Java's `close`. Refuses further selections and registrations, rings, waits until nobody
