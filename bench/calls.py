@@ -29,8 +29,8 @@ SECTIONS = {
     ],
     "`Selector`": [
         "nio::Caller@selectors.rt", "nio::Caller@selections.rt", "nio::select", "nio::select::Selector",
-        "nio::select::Selecting", "nio::select::Closing", "nio::select::KeyList", "nio::select::Asked",
-        "nio::select::Poller", "nio::select::Bell", "nio::select::Scripted", "nio::select::Sleeper",
+        "nio::select::Selecting", "nio::select::Lister", "nio::select::ChangeList", "nio::select::Closing",
+        "nio::select::KeyList", "nio::select::Asked", "nio::select::Poller", "nio::select::Bell", "nio::select::Scripted", "nio::select::Sleeper",
         "nio::select::Mode", "nio::select::Milliseconds", "nio_select", "nio_select::Renumber", "nio_poller::ToldPoll",
     ],
     "`SelectionKey`": [

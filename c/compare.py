@@ -24,6 +24,7 @@ NAMES = {
     "Channel": "nio_channel",
     "Key": "nio_key",
     "Looked": "nio_looked",
+    "Changed": "nio_changed",
     "Pair": "nio_pair",
     "Selection": "nio_selected",
 }

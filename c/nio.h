@@ -8,7 +8,7 @@
  *
  * Each function answers a status: NIO_EMPTY_HANDLE where the handle of its caller has none, and those that are named
  * with it. NIO_ILLEGAL_ARGUMENT and NIO_FULL_HANDLE come before NIO_EMPTY_HANDLE. Where the status isn't NIO_DONE no
- * answer was written, but for *count at NIO_NO_ROOM.
+ * answer was written, but for *count at NIO_NO_ROOM, and *changed at NIO_AGAIN.
  *
  * The functions are proved: docs/C.md says what, and what not.
  *
@@ -116,6 +116,16 @@ typedef struct nio_pair {
     uint32_t index;
     nio_ops ready;
 } nio_pair;
+
+/* A key that a selection marked or removed as it was told. `channel` is the channel's number, and `ready` the key's ready
+ * set since, 0 where it was removed. */
+typedef struct nio_changed {
+    uint32_t index;
+    uint32_t serial;
+    uint32_t channel;
+    nio_ops ready;
+    bool removed;
+} nio_changed;
 
 /* A selection that is over: how many keys it updated, and why it is over. */
 typedef struct nio_selected {
@@ -243,6 +253,13 @@ nio_status nio_asked(nio_caller *caller, uint32_t selector, nio_looked *keys, si
 nio_status nio_told(nio_caller *caller, uint32_t selector, const nio_pair *pairs, size_t count, bool elapsed,
                     bool enough, nio_selected *selected);
 
+/* The same, and lists what it did to keys: first each that it marked, then each that it removed, both by rising indexes.
+ * A key that it marked and then removed is listed twice. *changed says how many there are; the first of them are written,
+ * as many as there is room for, and of the others nio_selected_keys and nio_keys tell. After AGAIN *changed is 0. What
+ * nio_begin removed isn't listed. */
+nio_status nio_told_listing(nio_caller *caller, uint32_t selector, const nio_pair *pairs, size_t count, bool elapsed,
+                            bool enough, nio_selected *selected, nio_changed *changes, size_t room, size_t *changed);
+
 /* Ends the selection in progress without an answer, as after a poll that failed. NOT_SELECTING. */
 nio_status nio_leave(nio_caller *caller, uint32_t selector);
 
@@ -324,8 +341,7 @@ nio_status nio_attach(nio_caller *caller, nio_key key, uint64_t attachment, uint
 nio_status nio_attachment(nio_caller *caller, nio_key key, uint64_t *attachment);
 
 /*
- * To come: a number that was given away and comes back to the caller that gave it; a told that lists which keys it
- * marked and removed.
+ * To come: a number that was given away and comes back to the caller that gave it.
  */
 
 #ifdef __cplusplus

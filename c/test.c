@@ -72,6 +72,7 @@ static void empty_handles(void)
     nio_key key = {0};
     nio_looked looked;
     nio_pair pair = {0};
+    nio_changed changed;
     nio_selected selected;
     nio_ops ops = 42;
     uint32_t number;
@@ -92,6 +93,7 @@ static void empty_handles(void)
     EXPECT(NIO_EMPTY_HANDLE, nio_begin(&none, 0, 0));
     EXPECT(NIO_EMPTY_HANDLE, nio_asked(&none, 0, &looked, 1, &count));
     EXPECT(NIO_EMPTY_HANDLE, nio_told(&none, 0, &pair, 1, false, false, &selected));
+    EXPECT(NIO_EMPTY_HANDLE, nio_told_listing(&none, 0, &pair, 1, false, false, &selected, &changed, 1, &count));
     EXPECT(NIO_EMPTY_HANDLE, nio_begin_now(&none, 0));
     EXPECT(NIO_EMPTY_HANDLE, nio_leave(&none, 0));
     EXPECT(NIO_EMPTY_HANDLE, nio_open_channel(&none, NIO_STREAM, &channel));
@@ -213,6 +215,39 @@ static void keys(nio_caller *caller, nio_caller *other)
     EXPECT(NIO_CLOSED_CHANNEL, nio_register(caller, 0, second, NIO_READ, 0, &key));
 }
 
+/* A key is marked, and another one is removed. */
+static void listed_changes(nio_caller *caller, nio_caller *other)
+{
+    nio_pair ready = {.index = 0, .ready = NIO_READ | NIO_WRITE};
+    nio_channel third = {.number = 2};
+    nio_changed changes[2], *marked = &changes[0], *removed = &changes[1];
+    nio_selected selected;
+    nio_key key;
+    size_t count = 9;
+    bool answer;
+    EXPECT(NIO_NOT_SELECTING, nio_told_listing(caller, 0, &ready, 1, false, false, &selected, changes, 2, &count));
+    HOLD(count == 9);
+    EXPECT(NIO_DONE, nio_register(caller, 0, third, NIO_READ, 0, &key));
+    EXPECT(NIO_DONE, nio_begin(caller, 0, 0));
+    EXPECT(NIO_AGAIN, nio_told_listing(caller, 0, &ready, 0, false, false, &selected, changes, 2, &count));
+    HOLD(count == 0);
+    EXPECT(NIO_DONE, nio_cancel(other, key));
+    EXPECT(NIO_DONE, nio_told_listing(caller, 0, &ready, 1, false, false, &selected, changes, 2, &count));
+    HOLD(count == 2 && selected.count == 1);
+    HOLD(marked->index == 0 && marked->serial == 0 && marked->channel == 0);
+    HOLD(marked->ready == NIO_READ && !marked->removed);
+    HOLD(removed->index == key.index && removed->serial == key.serial && removed->channel == 2);
+    HOLD(removed->ready == 0 && removed->removed);
+
+    /* There is no room. */
+    EXPECT(NIO_DONE, nio_unselect(other, (nio_key){.selector = 0}, &answer));
+    HOLD(answer);
+    EXPECT(NIO_DONE, nio_begin_now(caller, 0));
+    EXPECT(NIO_DONE, nio_told_listing(caller, 0, &ready, 1, false, false, &selected, changes, 0, &count));
+    HOLD(count == 1 && marked->ready == NIO_READ);
+    EXPECT(NIO_DONE, nio_unselect(other, (nio_key){.selector = 0}, &answer));
+}
+
 static void selections(nio_caller *caller, nio_caller *other)
 {
     nio_looked looked[2];
@@ -273,6 +308,7 @@ static void selections(nio_caller *caller, nio_caller *other)
     HOLD(count == 1 && list[0].index == 0);
     EXPECT(NIO_DONE, nio_take_all_selected(other, 0, list, 2, &count));
     HOLD(count == 0);
+    listed_changes(caller, other);
 
     EXPECT(NIO_DONE, nio_wakeup(other, 0, &answer));
     HOLD(!answer);

@@ -50,6 +50,8 @@ pub use error::{
     BlockingError, CallerError, FinishError, KeyError, ListError, NoSuchCaller, NoSuchSelector, OpenError,
     RegisterError, ReopenError, SelectError, TableError, ToldError,
 };
-pub use names::{Asked, CallerNumber, Channel, Key, Kind, Ops, Ready, Selected, Selector, Wait, Why};
+pub use names::{
+    Asked, CallerNumber, Change, Changed, Changes, Channel, Key, Kind, Ops, Ready, Selected, Selector, Wait, Why,
+};
 pub use selection::{Selection, Told};
 pub use table::{Caller, Limits, Table};

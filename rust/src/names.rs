@@ -149,6 +149,34 @@ pub struct Ready {
     pub ops: Ops,
 }
 
+/// What a selection did to a key as it was told.
+#[derive(Clone, Copy, Debug, PartialEq, Eq, Hash)]
+pub struct Changed {
+    pub key: Key,
+    /// The channel's number.
+    pub channel: u32,
+    pub change: Change,
+}
+
+/// What was done to a key.
+#[derive(Clone, Copy, Debug, PartialEq, Eq, Hash)]
+pub enum Change {
+    /// It was added to the selected set, or operations to its ready set. Its ready set since.
+    Marked(Ops),
+    /// It was removed from its selector.
+    Removed,
+}
+
+/// What a selection did to keys as it was told: first those that it marked, then those that it removed, each by rising
+/// indexes.
+#[derive(Clone, Debug, PartialEq, Eq)]
+pub struct Changes {
+    /// The first of them, as many as there was room for.
+    pub list: Vec<Changed>,
+    /// How many there were.
+    pub count: usize,
+}
+
 /// A selection that is over.
 #[derive(Clone, Copy, Debug, PartialEq, Eq, Hash)]
 pub struct Selected {

@@ -51,6 +51,16 @@ pub struct nio_pair {
 }
 
 #[repr(C)]
+#[derive(Clone, Copy)]
+pub struct nio_changed {
+    pub index: u32,
+    pub serial: u32,
+    pub channel: u32,
+    pub ready: nio_ops,
+    pub removed: bool,
+}
+
+#[repr(C)]
 pub struct nio_selected {
     pub count: u32,
     pub why: u32,
@@ -137,6 +147,18 @@ extern "C" {
         elapsed: bool,
         enough: bool,
         selected: *mut nio_selected,
+    ) -> nio_status;
+    pub fn nio_told_listing(
+        caller: *mut nio_caller,
+        selector: u32,
+        pairs: *const nio_pair,
+        count: usize,
+        elapsed: bool,
+        enough: bool,
+        selected: *mut nio_selected,
+        changes: *mut nio_changed,
+        room: usize,
+        changed: *mut usize,
     ) -> nio_status;
     pub fn nio_leave(caller: *mut nio_caller, selector: u32) -> nio_status;
 

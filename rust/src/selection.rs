@@ -1,7 +1,7 @@
 //! Selections in progress.
 
 use crate::error::{answered, done, SelectError, ToldError};
-use crate::names::{Asked, Key, Ops, Ready, Selected, Selector, Wait};
+use crate::names::{Asked, Change, Changed, Changes, Key, Ops, Ready, Selected, Selector, Wait};
 use crate::raw;
 use crate::table::Caller;
 use std::mem;
@@ -113,10 +113,7 @@ impl<'a> Selection<'a> {
     /// none. An index that it doesn't ask for is ignored, and so is an operation. Where there is no memory it ends with
     /// no answer.
     pub fn told(self, ready: &[Ready], elapsed: bool) -> Result<Told<'a>, ToldError> {
-        let (elapsed, enough) = match self.until {
-            Until::Updated => (elapsed, false),
-            Until::Told { timed } => (elapsed && timed, true),
-        };
+        let (elapsed, enough) = self.over(elapsed);
         let mut selected = raw::nio_selected { count: 0, why: 0 };
         let status = unsafe {
             raw::nio_told(
@@ -129,6 +126,54 @@ impl<'a> Selection<'a> {
                 &mut selected,
             )
         };
+        self.told_so(status, selected)
+    }
+
+    /// The same, and lists what that did to keys, as many as there is room for. A key that was marked and then removed is
+    /// listed twice. A selection that goes on did nothing to keys.
+    pub fn told_listing(self, ready: &[Ready], elapsed: bool, room: usize) -> Result<(Told<'a>, Changes), ToldError> {
+        let (elapsed, enough) = self.over(elapsed);
+        let mut selected = raw::nio_selected { count: 0, why: 0 };
+        let mut list = Vec::with_capacity(room);
+        let mut count = 0;
+        let status = unsafe {
+            raw::nio_told_listing(
+                &mut self.caller.handle,
+                self.selector.0,
+                ready.as_ptr().cast(),
+                ready.len(),
+                elapsed,
+                enough,
+                &mut selected,
+                list.as_mut_ptr(),
+                room,
+                &mut count,
+            )
+        };
+        // SAFETY: so many were written.
+        unsafe { list.set_len(count.min(room)) };
+        let list = list.into_iter().map(|changed| self.changed_of(changed)).collect();
+        Ok((self.told_so(status, selected)?, Changes { list, count }))
+    }
+
+    fn changed_of(&self, changed: raw::nio_changed) -> Changed {
+        let ready = Ops::from_bits(changed.ready);
+        Changed {
+            key: Key { selector: self.selector, index: changed.index, serial: changed.serial },
+            channel: changed.channel,
+            change: if changed.removed { Change::Removed } else { Change::Marked(ready) },
+        }
+    }
+
+    /// Whether it is told that its time is over, and whether it is over once it was told of anything that it asks for.
+    fn over(&self, elapsed: bool) -> (bool, bool) {
+        match self.until {
+            Until::Updated => (elapsed, false),
+            Until::Told { timed } => (elapsed && timed, true),
+        }
+    }
+
+    fn told_so(self, status: raw::nio_status, selected: raw::nio_selected) -> Result<Told<'a>, ToldError> {
         if status == raw::NIO_AGAIN {
             return Ok(Told::Again(self));
         }
@@ -188,6 +233,32 @@ mod tests {
         let Told::Done(selected) = selection.told(&[ready], false).unwrap() else { panic!("it goes on") };
         assert_eq!((selected.count, selected.why), (0, Why::Elapsed));
         assert_eq!(caller.take_all_selected(selector).unwrap().len(), 1);
+    }
+
+    #[test]
+    fn lists_what_it_did() {
+        let table = Table::new(Limits { callers: 2, selectors: 1, channels: 2, keys: 2 }).unwrap();
+        let (mut caller, mut second) = (table.caller().unwrap(), table.caller().unwrap());
+        let selector = caller.open_selector().unwrap();
+        let keys = [(); 2].map(|()| {
+            let channel = caller.open_channel(Kind::Source).unwrap();
+            caller.set_blocking(channel, false).unwrap();
+            caller.register(selector, channel, Ops::READ, 0).unwrap()
+        });
+        let selection = caller.select(selector, Wait::Forever).unwrap();
+        let (Told::Again(selection), none) = selection.told_listing(&[], false, 2).unwrap() else {
+            panic!("it is over")
+        };
+        assert_eq!((none.list.len(), none.count), (0, 0));
+        assert!(second.cancel(keys[1]));
+        let ready = Ready { index: keys[0].index, ops: Ops::READ };
+        let (Told::Done(selected), both) = selection.told_listing(&[ready], false, 2).unwrap() else {
+            panic!("it goes on")
+        };
+        let marked = Changed { key: keys[0], channel: 0, change: Change::Marked(Ops::READ) };
+        let removed = Changed { key: keys[1], channel: 1, change: Change::Removed };
+        assert_eq!((selected.count, both.count), (1, 2));
+        assert_eq!(both.list, [marked, removed]);
     }
 
     #[test]

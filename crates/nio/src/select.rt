@@ -5,7 +5,7 @@ pub use nio_poller::{
     interrupted, select, select_for, select_now, select_told, select_told_for, tells_some, wakeup,
 };
 pub use nio_select::{
-    After, Asked, BeginError, Closing, Finish, KeyList, ListError, LookedKey, Mode, Selected,
-    Selecting, Selector, SelectorsSpent, Shutting, Stamp, Told, keys, open_selector, selected_keys,
-    shut, try_begin,
+    After, Asked, BeginError, ChangeList, Closing, Finish, KeyChange, KeyList, ListError, Lister,
+    LookedKey, Mode, Selected, Selecting, Selector, SelectorsSpent, Shutting, Stamp, Told,
+    Unlisted, keys, open_selector, selected_keys, shut, try_begin,
 };

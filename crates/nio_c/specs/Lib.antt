@@ -8,3 +8,4 @@ pub mod Selections
 pub mod Statuses
 pub mod Taking
 pub mod Values
+pub mod Writing

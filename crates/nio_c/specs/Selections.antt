@@ -1,9 +1,9 @@
 -- What the exports do that are on selections and closings in progress: the clauses of the caller's own calls, in one.
 use Rattle.std.specs.Prelude.{◌≡◌, ◌↔◌, ℕ, ◌<◌, ◌≤◌, Bool, true, false, ◌&&◌, ◌||◌, if◌then◌else◌, Option, Some, None}
-use Rattle.std.specs.Prelude.{Result, Ok, Err, List, length}
+use Rattle.std.specs.Prelude.{◌-◌, ◌^◌, Result, Ok, Err, List, [], ◌++◌, drop, length, map, min, take}
 use Rattle.std.specs.Prelude.{IfOk, IfSome, OnErr, option_map}
 use Rattle.nio_base.specs.declared.numbers.SelNo.{SelNo}
-use Rattle.nio_caller.specs.Callers.{Acting, closing, held, selection}
+use Rattle.nio_caller.specs.Callers.{Acting, closing, held, sees, selection}
 use Rattle.nio_caller.specs.NamedCalls.{Gives, MayRefuse, OnSelector}
 use Rattle.nio_caller.specs.Selections.{CallsOn, Finishes, HasBack, IsMade, Starts, TellsKept}
 use Rattle.nio_caller.specs.Selections.{closing_after, closing_left, shut_says}
@@ -11,18 +11,22 @@ use Rattle.nio_caller.specs.declared.refusal.CallError.{CallError}
 use Rattle.nio_caller.specs.declared.refusal.CallError.TheVariants.{NoSuchSelector}
 use Rattle.nio_caller.specs.declared.refusal.NotClosing.{NotClosing}
 use Rattle.nio_caller.specs.declared.refusal.NotSelecting.{NotSelecting}
+use Rattle.nio_history.specs.PassViews.{done_between}
 use Rattle.nio_history.specs.declared.found.Mode.{Mode}
 use Rattle.nio_poller.specs.Until.{tells_some}
 use Rattle.nio_select.specs.InHand.{InHand, TakesOnList, empty_list, known_by, list_of, selection_of}
+use Rattle.nio_select.specs.KeyChanges.{changes_by}
+use Rattle.nio_select.specs.declared.changes.KeyChange.{KeyChange}
 use Rattle.nio_steps.specs.Runs.{Completes}
 use Rattle.nio_steps.specs.SelectCalls.{Begins, Poll, leave_plan, shut_plan, take_list_plan}
 use Rattle.nio_steps.specs.declared.looked.LookedKey.{LookedKey}
 use Rattle.nio_steps.specs.declared.refusal.BeginError.{BeginError}
 use Rattle.nio_steps.specs.declared.selected.Selected.{Selected}
 use Rattle.nio_c.specs.Holding.{Holding}
-use Rattle.nio_c.specs.Values.{selection_of as as_selection}
+use Rattle.nio_c.specs.Values.{as_changed, selection_of as as_selection}
 use Rattle.nio_c.specs.declared.status.Status.{Status}
 use Rattle.nio_c.specs.declared.status.Status.TheVariants as status
+use Rattle.nio_c.specs.declared.values.Changed.{Changed}
 use Rattle.nio_c.specs.declared.values.Selection.{Selection}
 
 -- the caller takes the selector's list
@@ -91,6 +95,27 @@ abbrev pub TellsFound : SelNo → (enough : Bool) → Poll → Holding → Holdi
 TellsFound s enough poll old new (Some answer) = Tells s enough poll old new answer
 TellsFound s enough poll old new None = LacksMemory poll old new
 
+-- what the caller's acts did to keys of the selector, where its selection in progress there was told
+abbrev pub told_changes : Option (Result (Option Selected) NotSelecting) → Option InHand → Acting → Acting
+    → List KeyChange
+told_changes (Some (Ok selected)) (Some x) old new =
+    changes_by x.asked.keys (done_between old.number (sees old) (sees new))
+told_changes (Some (Ok selected)) None old new = []
+told_changes (Some (Err error)) o old new = []
+told_changes None o old new = []
+
+-- what a call that tells and lists answers, and the changes that it lists
+pub record ToldListing : Type 0 where
+  pub answer : Option (Result (Option Selected) NotSelecting)
+  pub changes : List KeyChange
+
+-- it tells its selection in progress what a poll found, and lists what that does to keys; or lacks memory
+pub record TellsListing (s : SelNo) (enough : Bool) (poll : Poll) (old new : Holding) (told : ToldListing) : Type 0 where
+  pub tells : TellsFound s enough poll old new told.answer
+  pub lists : told.changes ≡ told_changes told.answer (selection old.caller s) old.caller new.caller
+  -- a selection that goes on has done nothing to keys
+  pub again : told.answer ≡ Some (Ok None) → told.changes ≡ []
+
 -- it gives the turn of its selection in progress back
 pub record LeavesOn (s : SelNo) (old new : Acting) (answer : Result (Unit {0}) NotSelecting) : Type 0 where
   pub none : (answer ≡ Err (record {})) ↔ (selection old s ≡ None)
@@ -137,3 +162,17 @@ told_selection (Some (Ok (Some selected))) before = as_selection selected
 told_selection (Some (Ok None)) before = before
 told_selection (Some (Err error)) before = before
 told_selection None before = before
+
+-- ---- what was done to keys
+
+-- the count, where a selection was told
+abbrev pub changes_count : Option (Result (Option Selected) NotSelecting) → ℕ → ℕ → ℕ
+changes_count (Some (Ok selected)) count before = count
+changes_count (Some (Err error)) count before = before
+changes_count None count before = before
+
+-- the changes were written at the front of the array, as many as there is room for, and it was written how many there
+-- were
+pub record WroteChanges (told : ToldListing) (before after : List Changed) (counted counts : ℕ) : Type 0 where
+  pub array : after ≡ map as_changed (take (length before) told.changes) ++ drop (length told.changes) before
+  pub count : counts ≡ changes_count told.answer (min (length told.changes) (2 ^ 64 - 1)) counted

@@ -9,8 +9,10 @@ use Rattle.nio_base.specs.declared.numbers.KeyNo.{KeyNo}
 use Rattle.nio_base.specs.declared.numbers.SelNo.{SelNo}
 use Rattle.nio_history.specs.declared.why.Why.{Why}
 use Rattle.nio_history.specs.declared.why.Why.TheVariants as why
+use Rattle.nio_select.specs.declared.changes.KeyChange.{KeyChange}
 use Rattle.nio_steps.specs.declared.looked.LookedKey.{LookedKey}
 use Rattle.nio_steps.specs.declared.selected.Selected.{Selected}
+use Rattle.nio_c.specs.declared.values.Changed.{Changed}
 use Rattle.nio_c.specs.declared.values.Channel.{Channel}
 use Rattle.nio_c.specs.declared.values.Key.{Key}
 use Rattle.nio_c.specs.declared.values.Looked.{Looked}
@@ -43,6 +45,15 @@ key_no key = record { sel = record { 0 = key.selector }; index = key.index; seri
 
 abbrev pub as_looked : LookedKey → Looked
 as_looked key = record { index = key.index; serial = key.serial; channel = key.channel.0; interest = key.interest }
+
+abbrev pub as_changed : KeyChange → Changed
+as_changed key = record {
+  index = key.index;
+  serial = key.serial;
+  channel = key.channel.0;
+  ready = key.ready;
+  removed = key.removed;
+}
 
 abbrev pub as_told : Pair → ℕ × ℕ
 as_told pair = (pair.index, pair.ready)

@@ -2,7 +2,7 @@
 ghost use Rattle.std.specs.Prelude.{◌≡◌, is_some, option_map, unwrap_or};
 ghost use Rattle.std.specs.Result.{result_unwrap_or};
 ghost use Rattle.nio_select.specs.Listed.{ok_seen};
-ghost use Rattle.nio_c.specs.Selections.{finish_status, told_selection, told_status};
+ghost use Rattle.nio_c.specs.Selections.{changes_count, finish_status, told_selection, told_status};
 ghost use Rattle.nio_c.specs.Statuses.{call_refusal, channel_refusal, key_refusal, spent_refusal, status_found};
 ghost use Rattle.nio_c.specs.Statuses.{status_of};
 ghost use Rattle.nio_c.specs.Values.{channel_of, key_of};
@@ -106,6 +106,19 @@ pub(crate) fn write_selected(
         Some(Ok(None)) => Status::Again,
         Some(Err(error)) => error.status(),
         None => Status::NoMemory,
+    }
+}
+
+// Writes how many changes there were, where a selection was told.
+pub(crate) fn write_count(
+    answer: &Option<Result<Option<Selected>, NotSelecting>>,
+    count: usize,
+    changed: &mut usize,
+)
+    ensures { changed.new ≡ changes_count answer.now count changed.old }
+{
+    if let Some(Ok(_)) = answer {
+        *changed = count;
     }
 }
 

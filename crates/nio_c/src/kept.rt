@@ -1,14 +1,18 @@
 //! What a handle keeps.
-ghost use Rattle.std.specs.Prelude.{◌≡◌, ◌<◌, ◌≤◌, OnErr, OnOk, length, map, vec_capacity};
+ghost use Rattle.std.specs.Prelude.{◌≡◌, ◌<◌, ◌≤◌, Some, Ok, OnErr, OnOk, fold, length, map, vec_capacity};
+ghost use Rattle.nio_caller.specs.Callers.{selection};
 ghost use Rattle.nio_select.specs.InProgress.{poll_of};
 ghost use Rattle.nio_c.specs.Selections.{TellsFound, asked_in, is_over as over_where, tells_asked as asked_told};
+ghost use Rattle.nio_c.specs.Selections.{told_changes};
 ghost use Rattle.nio_c.specs.Values.{as_told};
+ghost use Rattle.nio_c.specs.Writing.{counted_on, written_on};
 
 use crate::values::Pair;
+use crate::writing::Writing;
 use nio_base::{Ops, SelNo};
 use nio_caller::{Caller, NotSelecting};
 use nio_poller::tells_some;
-use nio_select::Told;
+use nio_select::{Lister, Told};
 use nio_steps::Selected;
 use nio_words::Words;
 use std::alloc::{AllocError, Global};
@@ -57,22 +61,47 @@ impl Kept {
         caller
     }
 
-    // Tells the caller's selection in progress what a poll found. None: there was no memory for that, and nothing was
-    // told.
-    pub(crate) fn tell(
+    // Tells the caller's selection in progress what a poll found; the lister takes note of what that does to keys. None:
+    // there was no memory for that, and nothing was told.
+    pub(crate) fn tell<L: Lister>(
         &mut self,
         sel: SelNo,
         found: &[Pair],
         elapsed: bool,
         enough: bool,
+        lister: &mut L,
     ) -> Option<Result<Option<Selected>, NotSelecting>>
-        ensures { TellsFound sel enough (record { pairs = map as_told found.now; elapsed = elapsed })
+        ensures told { TellsFound sel enough (record { pairs = map as_told found.now; elapsed = elapsed })
             self.old self.new result }
+        ensures listed { lister.new ≡ fold L.noted lister.old
+            (told_changes result (selection self.old.caller sel) self.old.caller self.new.caller) }
+        ensures again { result ≡ Some (Ok None) → lister.new ≡ lister.old }
     {
         take_in(&mut self.told.pairs, found).ok()?;
         self.told.elapsed = elapsed;
         self.told.elapsed = is_over(&self.caller, sel, &self.told, enough);
-        Some(self.caller.told(sel, &self.told))
+        Some(self.caller.told_listing(sel, &self.told, lister))
+    }
+
+    // The same, and writes what that does to keys.
+    pub(crate) fn tell_listing(
+        &mut self,
+        sel: SelNo,
+        found: &[Pair],
+        elapsed: bool,
+        enough: bool,
+        writing: &mut Writing<'_>,
+    ) -> Option<Result<Option<Selected>, NotSelecting>>
+        ensures told { TellsFound sel enough (record { pairs = map as_told found.now; elapsed = elapsed })
+            self.old self.new result }
+        ensures same_array { writing.new.into.ghost_name ≡ writing.old.into.ghost_name }
+        ensures written { writing.new.into.now ≡ written_on writing.old.into.now writing.old.count
+            (told_changes result (selection self.old.caller sel) self.old.caller self.new.caller) }
+        ensures count { writing.new.count ≡ counted_on writing.old.count
+            (told_changes result (selection self.old.caller sel) self.old.caller self.new.caller) }
+        ensures again { result ≡ Some (Ok None) → writing.new.count ≡ writing.old.count }
+    {
+        self.tell(sel, found, elapsed, enough, writing)
     }
 }
 

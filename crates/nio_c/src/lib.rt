@@ -8,7 +8,7 @@
 
 pub use handle::Handle;
 pub use status::Status;
-pub use values::{Channel, Key, Looked, Pair, Selection, TableLimits};
+pub use values::{Changed, Channel, Key, Looked, Pair, Selection, TableLimits};
 
 mod answers;
 mod callers;
@@ -23,3 +23,4 @@ mod selectors;
 mod status;
 mod taking;
 mod values;
+mod writing;

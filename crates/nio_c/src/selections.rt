@@ -5,19 +5,21 @@ ghost use Rattle.nio_history.specs.declared.found.Mode.TheVariants as mode;
 ghost use Rattle.nio_c.specs.Exports.{Exports, ExportsHeld, Refuses};
 ghost use Rattle.nio_c.specs.Lists.{asked_count, asked_into, asked_status};
 ghost use Rattle.nio_c.specs.Selections.{Asks, BeginsOn, FinishesOn, LeavesOn, ShutsOn, TakesList, TellsFound};
-ghost use Rattle.nio_c.specs.Selections.{asked_in, finish_status, told_selection, told_status};
+ghost use Rattle.nio_c.specs.Selections.{TellsListing, WroteChanges, asked_in, finish_status, told_selection};
+ghost use Rattle.nio_c.specs.Selections.{told_status};
 ghost use Rattle.nio_c.specs.Statuses.{begin_refusal, call_refusal, done, selecting_refusal, status_found, status_of};
 ghost use Rattle.nio_c.specs.Values.{as_told, sel_no};
 ghost use Rattle.nio_c.specs.declared.status.Status.TheVariants as status;
 
-use crate::answers::{done_or, finished, write_said, write_selected};
+use crate::answers::{done_or, finished, write_count, write_said, write_selected};
 use crate::handle::Handle;
 use crate::kept::Sharer;
 use crate::lists::write_asked;
 use crate::status::Status;
-use crate::values::{Looked, Pair, Selection};
+use crate::values::{Changed, Looked, Pair, Selection};
+use crate::writing::Writing;
 use nio_base::SelNo;
-use nio_select::Mode;
+use nio_select::{Mode, Unlisted};
 use std::alloc::Global;
 
 /// Takes the selector's list, where nobody has that. Writes whether it was taken.
@@ -133,8 +135,44 @@ pub extern "C" fn nio_told(
     let Some(mut kept) = caller.take(alloc) else {
         return Status::EmptyHandle.code();
     };
-    let answer = kept.tell(SelNo(selector), pairs, elapsed, enough);
+    let mut unlisted = Unlisted;
+    let answer = kept.tell(SelNo(selector), pairs, elapsed, enough, &mut unlisted);
     caller.put(kept);
+    write_selected(answer, selected).code()
+}
+
+/// The same, and writes what it did to keys: each that it marked and each that it removed, in the order of its steps, as
+/// many as there is room for, and how many there were.
+#[unsafe(no_mangle)]
+pub extern "C" fn nio_told_listing(
+    alloc: Global,
+    caller: &mut Handle,
+    selector: u32,
+    pairs: &[Pair],
+    elapsed: bool,
+    enough: bool,
+    selected: &mut Selection,
+    changes: &mut [Changed],
+    changed: &mut usize,
+) -> u32
+    ensures { ExportsHeld
+        (TellsListing (sel_no selector) enough (record { pairs = map as_told pairs.now; elapsed = elapsed }))
+        (λ told. told_status told.answer)
+        (λ told. (selected.new ≡ told_selection told.answer selected.old)
+        × WroteChanges told changes.old changes.new changed.old changed.new)
+        ((selected.new ≡ selected.old) × (changes.new ≡ changes.old) × (changed.new ≡ changed.old))
+        caller.old caller.new result }
+{
+    let Some(mut kept) = caller.take(alloc) else {
+        return Status::EmptyHandle.code();
+    };
+    let mut writing = Writing {
+        into: changes,
+        count: 0,
+    };
+    let answer = kept.tell_listing(SelNo(selector), pairs, elapsed, enough, &mut writing);
+    caller.put(kept);
+    write_count(&answer, writing.count, changed);
     write_selected(answer, selected).code()
 }
 

@@ -1,10 +1,11 @@
 //! The structs that C passes.
 ghost use Rattle.std.specs.Prelude.{◌≡◌};
-ghost use Rattle.nio_c.specs.Values.{as_limits, as_looked, channel_id, channel_of, key_no, key_of, kind_numbered};
+ghost use Rattle.nio_c.specs.Values.{as_changed, as_limits, as_looked, channel_id, channel_of, key_no, key_of, kind_numbered};
 ghost use Rattle.nio_c.specs.Values.{selection_of, why_code};
 
 use nio_base::{ChanId, ChanNo, KeyNo, Kind, Limits, SelNo};
 use nio_history::Why;
+use nio_select::KeyChange;
 use nio_steps::{LookedKey, Selected};
 
 /// How much a table holds: Rattle's `Limits`.
@@ -118,6 +119,31 @@ impl Looked {
 pub struct Pair {
     pub index: u32,
     pub ready: u8,
+}
+
+/// A key that a selection marked or removed as it was told: its ready set since, or none where it was removed.
+#[repr(C)]
+#[derive(Clone, Copy, Debug)]
+pub struct Changed {
+    pub index: u32,
+    pub serial: u32,
+    pub channel: u32,
+    pub ready: u8,
+    pub removed: bool,
+}
+
+impl Changed {
+    pub(crate) fn of(key: KeyChange) -> Changed
+        ensures { result ≡ as_changed key }
+    {
+        Changed {
+            index: key.index,
+            serial: key.serial,
+            channel: key.channel.0,
+            ready: key.ready.bits(),
+            removed: key.removed,
+        }
+    }
 }
 
 /// What a selection that is over answers.

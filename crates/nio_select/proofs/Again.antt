@@ -75,6 +75,17 @@ pub again_as : (result : After) (s next : InHand) → next ≡ s → IfAgain res
 again_as (after.Done answer list) s next same is = tt
 again_as (after.Again x) s next same is = is ∙ same
 
+pub never_again : (P : InHand → Type 0) (result : After) → IfAgain result (λ _. ⊥) → IfAgain result P
+never_again P (after.Done answer list) none = tt
+never_again P (after.Again s) none = absurd none
+
+-- what took note of no mark, as there was none, and then of nothing
+pub again_lists : {L : Type 0} (count : ℕ) (result : After) (before marked now : L)
+    → IfAgain result (λ _. (count ≡ 0) × (now ≡ marked)) → (count ≡ 0 → marked ≡ before)
+    → IfAgain result (λ _. now ≡ before)
+again_lists count (after.Done answer list) before marked now none marks = tt
+again_lists count (after.Again x) before marked now none marks = none.1 ∙ marks none.0
+
 -- the list that comes back is that of the selection
 pub list_given : {me : CallerNo} {acts : List Act} {v0 v1 : PassView} (s next : InHand) (result : After) → next ≡ s
     → Selects v0 me (selection_of s) → ActsClause me acts v0 v1 → IfDone result (λ list. list ≡ list_of next)

@@ -1,7 +1,6 @@
 -- What puts the calls of a selection together.
-use Rattle.std.proofs.Common.{◌≡◌, ℕ, Bool, true, false, [], ◌∷◌, ap, sym, ◌∙◌, subst}
-use Rattle.std.proofs.Common.{Bool}
-use Rattle.std.proofs.lemmas.Bool.{and_parts}
+use Rattle.std.proofs.Common.{◌≡◌, ℕ, ◌==◌, Bool, true, false, not, ◌&&◌, [], ◌∷◌, refl, ap, sym, ◌∙◌, subst}
+use Rattle.std.proofs.lemmas.Bool.{and_parts, eqb-true}
 use Rattle.nio_base.specs.declared.numbers.CallerNo.{CallerNo}
 use Rattle.nio_base.specs.declared.numbers.SelNo.{SelNo}
 use Rattle.nio_history.specs.Conditions.{has_turn}
@@ -16,7 +15,7 @@ use Rattle.nio_steps.specs.Calls.{CallClause}
 use Rattle.nio_steps.specs.Plan.{Plan, reply, ◌>>=◌, ◌>>◌}
 use Rattle.nio_steps.specs.Runs.{Completes}
 use Rattle.nio_steps.specs.SelectCalls.{Selection, ToldReply, done, again, is_again, why_ended, end_selection, after_marks}
-use Rattle.nio_steps.specs.SelectCalls.{remove_all_cancelled}
+use Rattle.nio_steps.specs.SelectCalls.{is_timed, may_wait, remove_all_cancelled}
 use Rattle.nio_steps.specs.Steps.{end_wake, give_turn}
 use Rattle.nio_steps.specs.declared.selected.Selected.{Selected}
 use Rattle.nio_words.specs.Passes.{IsReady, limits_of, seen, state_seen}
@@ -42,6 +41,21 @@ pub begun_turn : {w : Words} {p : Pass} {me : CallerNo} {s : SelNo} → HasBegun
     → has_turn (state_seen p) me s ≡ true
 begun_turn {p = p} {me = me} {s = s} here =
     (and_parts (has_turn (state_seen p) me s) ((state_seen p).begun s.0) here.begun).0
+
+-- ---- a selection that goes on
+
+second : (a b c d e f : Bool) → (a && b && c && d && e && f) ≡ true → b ≡ true
+second a true c d e f all = refl
+second true false c d e f all = absurd (cc all)
+second false false c d e f all = absurd (cc all)
+
+-- no mark succeeded
+pub again_unmarked : (mode : Mode) (count : ℕ) (gate : GateWord) (interrupted elapsed : Bool)
+    → is_again mode count gate interrupted elapsed ≡ true → count ≡ 0
+again_unmarked mode count gate interrupted elapsed goes =
+    eqb-true count 0
+    (second (may_wait mode) (count == 0) (not gate.woken) (not gate.shut) (not interrupted)
+    (not (is_timed mode && elapsed)) goes)
 
 -- ---- the end of a selection
 

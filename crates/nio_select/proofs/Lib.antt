@@ -9,7 +9,10 @@ pub mod BegunListed
 pub mod TakenOn
 pub mod TakenBits
 pub mod Beginnings
+pub mod KeyChanges
+pub mod ChangeLists
 pub mod ToldMarks
+pub mod ChangeOrder
 pub mod NotedWords
 pub mod NotedMarks
 pub mod ListTaken

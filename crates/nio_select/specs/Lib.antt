@@ -10,4 +10,7 @@ pub mod Beginning
 pub mod ToldSlots
 pub mod Laws
 pub mod Removing
+pub mod KeyChanges
+pub mod ChangeLists
+pub mod ChangeLaws
 pub mod Touched

@@ -1,5 +1,7 @@
 //! What follows from the contracts of the calls of a selection, and from the laws of their plans. The functions do
 //! nothing: their contracts are laws.
+ghost use Rattle.nio_select.specs.ChangeLaws.{ChangesAreInOrder};
+ghost use Rattle.nio_select.specs.ChangeLists.{ChangesAreListed};
 ghost use Rattle.nio_select.specs.Laws.{CancelledKeysAreGone, CancelledKeysAreGoneAtEnd, EndsFindHigh};
 ghost use Rattle.nio_select.specs.Laws.{CancelledListedKeysAreGone, CancelledListedKeysAreGoneAtEnd, ListsAreKept};
 ghost use Rattle.nio_select.specs.Laws.{ValidKeysAreAsked, ValidListedKeysAreAsked};
@@ -74,3 +76,14 @@ pub fn closed_law()
 {
     close_law()
 }
+
+/// A selection that is told marks keys, as many as it says that it updated, and then removes keys; each part with rising
+/// indexes. One that goes on does nothing to keys.
+pub fn told_changes_law()
+    ensures { ChangesAreInOrder }
+{}
+
+/// A list of changes has the first that it took note of, as many as it has room for, and counts them all.
+pub fn change_list_law()
+    ensures { ChangesAreListed }
+{}

@@ -13,10 +13,12 @@
 
 pub use asked::{Asked, Renumber};
 pub use beginning::try_begin;
+pub use change_list::ChangeList;
+pub use changes::{KeyChange, Lister, Unlisted};
 pub use closing::{Closing, Finish, Shutting, shut};
 pub use laws::{
-    alone_law, closed_law, gone_law, kept_list_law, listed_gone_law, listed_steps_law, steps_law,
-    turn_law,
+    alone_law, change_list_law, closed_law, gone_law, kept_list_law, listed_gone_law,
+    listed_steps_law, steps_law, told_changes_law, turn_law,
 };
 pub use list::{KeyList, Refused, take_list};
 pub use listing::{keys, selected_keys};
@@ -30,6 +32,8 @@ pub use told::Told;
 
 mod asked;
 mod beginning;
+mod change_list;
+mod changes;
 mod closing;
 mod laws;
 mod list;

@@ -1,15 +1,18 @@
 //! A selection in progress.
-ghost use Rattle.std.specs.Prelude.{◌≡◌, is_some};
+ghost use Rattle.std.specs.Prelude.{◌≡◌, List, is_some};
 ghost use Rattle.nio_steps.specs.Calls.{CallClause};
 ghost use Rattle.nio_steps.specs.Runs.{Completes};
 ghost use Rattle.nio_steps.specs.SelectCalls.{Tells, leave_plan, after_marks as after_marks_plan, end_selection};
+ghost use Rattle.nio_steps.specs.declared.looked.LookedKey.{LookedKey};
 ghost use Rattle.nio_words.specs.Passes.{IsReady, limits_of};
 ghost use Rattle.nio_words.specs.Views.{view};
 ghost use Rattle.nio_select.specs.Begun.{HasBegun};
 ghost use Rattle.nio_select.specs.InHand.{selection_of, list_of};
 ghost use Rattle.nio_select.specs.InProgress.{Selects, GivesBack, poll_of, told_reply, IfAgain, IfDone};
+ghost use Rattle.nio_select.specs.KeyChanges.{TakesNote};
 
 use crate::asked::Asked;
+use crate::changes::{Lister, Unlisted};
 use crate::list::KeyList;
 use crate::removing::remove_all_cancelled;
 use crate::telling::{is_again, mark_asked, why_ended};
@@ -85,20 +88,63 @@ impl Selecting {
         ensures goes_on { IfAgain result (λ s. (s ≡ self) × Selects (view w.now p.new) me (selection_of s)) }
         ensures done { IfDone result (GivesBack (view w.now p.new) me self) }
     {
+        let mut unlisted = Unlisted;
+        self.told_listing(w, p, me, told, &mut unlisted)
+    }
+
+    /// Tells as `told` does, while the lister takes note of each key that is marked and of each that is removed, in the
+    /// order of the steps: of none where the selection goes on.
+    pub fn told_listing<L: Lister>(
+        self,
+        w: &Words,
+        p: &mut Pass,
+        me: CallerNo,
+        told: &Told,
+        lister: &mut L,
+    ) -> After
+        requires ready { IsReady w.now p.old me }
+        requires begun { Selects (view w.now p.old) me (selection_of self) }
+        ensures call { CallClause me (Tells (selection_of self) (poll_of told.now))
+            (view w.now p.old) (view w.now p.new) (told_reply result) }
+        ensures ready { IsReady w.now p.new me }
+        ensures goes_on { IfAgain result (λ s. (s ≡ self) × Selects (view w.now p.new) me (selection_of s)) }
+        ensures done { IfDone result (GivesBack (view w.now p.new) me self) }
+        ensures listed { TakesNote L.noted self.asked.keys me (view w.now p.old) (view w.now p.new) lister.old lister.new }
+        ensures nothing { IfAgain result (λ s. lister.new ≡ lister.old) }
+    {
         let mut selecting = self;
         let pairs = told.pairs.as_slice();
-        let count = mark_asked(w, p, me, selecting.selector, &mut selecting.asked, pairs);
-        selecting.after_marks(w, p, me, told.elapsed, count)
+        let count = mark_asked(
+            w,
+            p,
+            me,
+            selecting.selector,
+            &mut selecting.asked,
+            pairs,
+            lister,
+        );
+        selecting.after_marks(w, p, me, told.elapsed, count, lister)
     }
 
     // Goes on or ends, after so many marks that succeeded.
-    fn after_marks(self, w: &Words, p: &mut Pass, me: CallerNo, elapsed: bool, count: u32) -> After
+    fn after_marks<L: Lister>(
+        self,
+        w: &Words,
+        p: &mut Pass,
+        me: CallerNo,
+        elapsed: bool,
+        count: u32,
+        lister: &mut L,
+    ) -> After
         requires begun { HasBegun w.now p.old me self.selector }
         ensures call { CallClause me (Completes (after_marks_plan (selection_of self) elapsed count))
             (view w.now p.old) (view w.now p.new) (told_reply result) }
         ensures ready { IsReady w.now p.new me }
         ensures same { IfAgain result (λ s. s ≡ self) }
+        ensures nothing { IfAgain result (λ s. (count ≡ 0) × (lister.new ≡ lister.old)) }
         ensures list { IfDone result (λ list. list ≡ list_of self) }
+        ensures listed { (asked : List LookedKey) → TakesNote L.noted asked me (view w.now p.old) (view w.now p.new)
+            lister.old lister.new }
     {
         let gate = w.look_gate(p, me, self.selector);
         let interrupted = w.look_interrupt(p, me);
@@ -106,19 +152,28 @@ impl Selecting {
             return After::Again(self);
         }
         let why = why_ended(self.mode, count, gate, interrupted);
-        self.end(w, p, me, Selected { count, why })
+        self.end(w, p, me, Selected { count, why }, lister)
     }
 
     // Removes the cancelled keys, uses up the wakeup, and gives the turn back.
-    fn end(self, w: &Words, p: &mut Pass, me: CallerNo, answer: Selected) -> After
+    fn end<L: Lister>(
+        self,
+        w: &Words,
+        p: &mut Pass,
+        me: CallerNo,
+        answer: Selected,
+        lister: &mut L,
+    ) -> After
         requires begun { HasBegun w.now p.old me self.selector }
         ensures call { CallClause me (Completes (end_selection (selection_of self) answer))
             (view w.now p.old) (view w.now p.new) (told_reply result) }
         ensures ready { IsReady w.now p.new me }
         ensures over { IfAgain result (λ s. ⊥) }
         ensures list { IfDone result (λ list. list ≡ list_of self) }
+        ensures listed { (asked : List LookedKey) → TakesNote L.noted asked me (view w.now p.old) (view w.now p.new)
+            lister.old lister.new }
     {
-        remove_all_cancelled(w, p, me, self.selector, self.is_listed());
+        remove_all_cancelled(w, p, me, self.selector, self.is_listed(), lister);
         w.end_wake(p, me, self.selector);
         w.give_turn(p, me, self.selector);
         After::Done(answer, self.into_list())

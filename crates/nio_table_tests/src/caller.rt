@@ -5,12 +5,12 @@ ghost use Rattle.std.specs.Prelude.{◌≡◌, IfOk};
 use crate::calls::{NOTHING, Reply, told};
 use crate::several::selects;
 use crate::tables::S;
-use nio_base::{CallerNo, ChanId, ChanNo, KeyNo, Limits, Ops};
+use nio_base::{CallerNo, ChanId, ChanNo, KeyNo, Kind, Limits, Ops};
 use nio_caller::{CallError, Caller, NotClosing, NotSelecting};
 use nio_history::Why;
 use nio_pipe::{PipeRead, PipeWrite};
 use nio_poller::{Bell, NoBell};
-use nio_select::{BeginError, Mode, Told};
+use nio_select::{BeginError, ChangeList, KeyChange, Mode, Selected, Told};
 use nio_words::Words;
 use std::alloc::{AllocError, Global};
 use std::sync::{Arc, Mutex};
@@ -166,6 +166,48 @@ fn what_is_missing_is_refused(rt: HostRuntime) -> Result<(), Fail> {
             "row {at}"
         );
     }
+    Ok(())
+}
+
+/// The mark of one key and the removal of the other one, in a list that has room for one of the two.
+#[test]
+fn changes_are_listed(rt: HostRuntime) -> Result<(), Fail> {
+    let (words, pass) = Words::make(rt.alloc(), LIMITS)?;
+    let mut caller = Caller::first(&words, pass);
+    let sel = caller.open_selector()?;
+    let first = caller.open_channel(Kind::Stream)?;
+    let second = caller.open_channel(Kind::Stream)?;
+    let key = caller.register_non_blocking(&rt, sel, first, Ops::READ, 0)?;
+    let cancelled = caller.register_non_blocking(&rt, sel, second, Ops::READ, 0)?;
+    caller.begin(rt.alloc(), sel, Mode::Wait)?;
+    let mut list = ChangeList::with_room(rt.alloc(), 1)?;
+    let nothing = told(rt.alloc(), NOTHING, false)?;
+    assert!(rt; caller.told_listing(sel, &nothing, &mut list)?.is_none());
+    assert!(rt; list.count() == 0);
+    caller.cancel(cancelled);
+    let both = told(rt.alloc(), ((key.index, 5), (9, 1), (9, 4)), false)?;
+    let selected = caller.told_listing(sel, &both, &mut list)?;
+    assert!(rt;
+        selected
+            == Some(Selected {
+                count: 1,
+                why: Why::Ready
+            })
+    );
+    let marked = KeyChange {
+        index: key.index,
+        serial: key.serial,
+        channel: first.number,
+        ready: Ops::READ,
+        removed: false,
+    };
+    let listed = match list.changes() {
+        [only] => *only == marked,
+        _ => false,
+    };
+    assert!(rt; listed && list.count() == 2);
+    list.clear();
+    assert!(rt; list.count() == 0);
     Ok(())
 }
 

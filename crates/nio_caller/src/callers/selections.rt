@@ -11,6 +11,7 @@ ghost use Rattle.nio_poller.specs.declared.selecting.SelectError.TheVariants.{Po
 ghost use Rattle.nio_poller.specs.declared.selecting.SelectError.TheVariants.{NegativeTimeout};
 ghost use Rattle.nio_select.specs.InHand.{TakesOnList, empty_list, known_by, list_of, selection_of};
 ghost use Rattle.nio_select.specs.InProgress.{MaySelect, poll_of};
+ghost use Rattle.nio_select.specs.KeyChanges.{TakesNote};
 ghost use Rattle.nio_steps.specs.Calls.{CallClause};
 ghost use Rattle.nio_steps.specs.Runs.{Completes};
 ghost use Rattle.nio_steps.specs.SelectCalls.{Begins, leave_plan, shut_plan, take_list_plan};
@@ -28,7 +29,7 @@ use crate::table::Table;
 use nio_base::{CallerNo, SelNo};
 use nio_history::Mode;
 use nio_poller::{Poller, SelectError};
-use nio_select::{After, Finish, Selecting, Selector, Shutting, Told};
+use nio_select::{After, Finish, Lister, Selecting, Selector, Shutting, Told, Unlisted};
 use nio_steps::{BeginError, Selected};
 use nio_words::{Pass, Words};
 use std::alloc::Global;
@@ -301,10 +302,42 @@ impl<T: Table> Caller<T> {
             (selection self.new sel ≡ None) × HasBack (list_of s) self.old.selectors self.new.selectors))) }
         ensures closings { self.new.progress.closings ≡ self.old.progress.closings }
     {
+        let mut unlisted = Unlisted;
+        self.told_listing(sel, told, &mut unlisted)
+    }
+
+    /// Tells as `told` does, while the lister takes note of each key that is marked and of each that is removed, in the
+    /// order of the steps: of none where the selection goes on.
+    pub fn told_listing<L: Lister>(
+        &mut self,
+        sel: SelNo,
+        told: &Told,
+        lister: &mut L,
+    ) -> Result<Option<Selected>, NotSelecting>
+        ensures none { (result ≡ Err (record {})) ↔ (selection self.old sel ≡ None) }
+        ensures nothing { OnErr result (self.new ≡ self.old) }
+        ensures call { IfSome (selection self.old sel) (λ s. CallsOn sel (λ _. TellsKept s (poll_of told.now))
+            self.old self.new result) }
+        ensures goes_on { result ≡ Ok None → (self.new.selectors ≡ self.old.selectors)
+            × (selection self.new sel ≡ selection self.old sel) }
+        ensures done { IfSome (selection self.old sel) (λ s. IfOk result (λ answer. IfSome answer (λ _.
+            (selection self.new sel ≡ None) × HasBack (list_of s) self.old.selectors self.new.selectors))) }
+        ensures closings { self.new.progress.closings ≡ self.old.progress.closings }
+        ensures listed { IfSome (selection self.old sel) (λ s. TakesNote L.noted s.asked.keys
+            self.old.number (sees self.old) (sees self.new) lister.old lister.new) }
+        ensures untold { OnErr result (lister.new ≡ lister.old) }
+        ensures again { result ≡ Ok None → lister.new ≡ lister.old }
+    {
         let Some(selection) = self.progress.take_selection(sel) else {
             return Err(NotSelecting);
         };
-        match selection.told(self.table.words(), &mut self.pass, self.number, told) {
+        match selection.told_listing(
+            self.table.words(),
+            &mut self.pass,
+            self.number,
+            told,
+            lister,
+        ) {
             After::Done(answer, list) => {
                 self.lists.take_back(sel, list);
                 Ok(Some(answer))
