@@ -1,14 +1,13 @@
 -- Which calls were made, from the clauses of the calls on the table.
-use Rattle.std.proofs.Common.{◌≡◌, ◌≢◌, ℕ, Bool, true, false, Option, Some, None, Result, Ok, Err, OnOk, OnErr}
+use Rattle.std.proofs.Common.{◌≡◌, ◌≢◌, ℕ, suc, ◌-◌, ◌≤◌, Bool, true, false, Option, Some, None, Result, Ok, Err, OnOk}
+use Rattle.std.proofs.Common.{OnErr, arith}
 use Rattle.std.proofs.Common.{is_err}
 use Rattle.std.proofs.Common.{List, [], ◌∷◌, ◌++◌}
 use Rattle.std.proofs.Common.{◌==◌, ◌&&◌, refl, ap, sym, ◌∙◌, subst, append_assoc, eq-eqb}
 use Rattle.std.proofs.lemmas.Bool.{false≢true}
 use Rattle.std.proofs.lemmas.List.{append-nil}
 use Rattle.nio_base.specs.declared.kind.Kind.{Kind}
-use Rattle.nio_base.specs.Numbers.{first_channel}
 use Rattle.nio_base.specs.declared.numbers.ChanId.{ChanId}
-use Rattle.nio_base.specs.declared.numbers.ChanNo.{ChanNo}
 use Rattle.nio_base.specs.declared.numbers.KeyNo.{KeyNo}
 use Rattle.nio_base.specs.declared.numbers.SelNo.{SelNo}
 use Rattle.nio_history.specs.PassViews.{done_between}
@@ -20,7 +19,8 @@ use Rattle.nio_orderly.specs.Orderly.{AreRuns, Parts}
 use Rattle.nio_select.specs.InHand.{HeldSelector, known_by}
 use Rattle.nio_board.proofs.Calls.{with_selector}
 use Rattle.nio_board.specs.Board.{BoardView, board_of}
-use Rattle.nio_board.specs.BoardCalls.{AreMade, HasMade, finds, finds_channel, takes, registers, SetsInterest}
+use Rattle.nio_board.specs.BoardCalls.{AreMade, HasMade, Takes, finds, finds_channel, opens, reopens}
+use Rattle.nio_board.specs.BoardCalls.{after_it, first_found, first_opened, registers, reopened, SetsInterest}
 use Rattle.nio_board.specs.BoardCalls.{interest_set, FailsToSet, set_not_found}
 use Rattle.nio_board.specs.BoardCalls.{set_refused, CancelsKey, key_not_found, key_cancelled, ClosesChannel}
 use Rattle.nio_board.specs.BoardCalls.{channel_not_found, channel_closed, TellsPoll, selection_over, selection_again}
@@ -31,20 +31,24 @@ use Rattle.nio_board.specs.BoardCalls.{found_none}
 use Rattle.nio_board.specs.BoardCalls.{found_other, FailsToRegister, register_refused, WatchesChannel}
 use Rattle.nio_board.specs.BoardCalls.{channel_watched}
 use Rattle.nio_board.specs.BoardCalls.{FailsToWatch, watch_not_taken, watch_still_blocking, watch_not_registered}
-use Rattle.nio_board.specs.BoardCalls.{FailsToTake, take_unopened, take_unfound}
+use Rattle.nio_board.specs.BoardCalls.{FailsToTake, take_unopened, take_unfound, take_unreopened, FailsToReopen}
+use Rattle.nio_board.specs.BoardCalls.{before_unfound, reopen_refused}
 use Rattle.nio_board.specs.Polling.{BeginsAndLeaves, SelectsBy}
 use Rattle.nio_board.specs.declared.board.Station.{Station}
 use Rattle.nio_board.specs.declared.deal.Deal.{Deal}
 use Rattle.nio_steps.specs.Calls.{CallClause}
 use Rattle.nio_steps.specs.KeyCalls.{find_plan, find_channel_plan, set_interest_plan, cancel_plan}
-use Rattle.nio_steps.specs.ChannelCalls.{open_channel_plan, close_channel_plan, SetsBlocking, Registers}
+use Rattle.nio_steps.specs.ChannelCalls.{open_channel_plan, reopen_channel_plan, close_channel_plan, SetsBlocking}
+use Rattle.nio_steps.specs.ChannelCalls.{Registers}
 use Rattle.nio_steps.specs.Runs.{Completes}
 use Rattle.nio_steps.specs.SelectCalls.{Selection, Begins, Poll, Tells, ToldReply, done, again, leave_plan}
-use Rattle.nio_steps.specs.TableCalls.{set_interest, cancel, open_channel, close_channel, try_begin, told, leave}
+use Rattle.nio_steps.specs.TableCalls.{set_interest, cancel, open_channel, reopen_channel, close_channel, try_begin}
+use Rattle.nio_steps.specs.TableCalls.{told, leave}
 use Rattle.nio_steps.specs.TableCalls.{set_blocking, register}
 use Rattle.nio_steps.specs.declared.refusal.BeginError.{BeginError}
 use Rattle.nio_steps.specs.declared.refusal.ChannelError.{ChannelError}
 use Rattle.nio_steps.specs.declared.refusal.KeyError.{KeyError}
+use Rattle.nio_steps.specs.declared.refusal.ReopenError.{ReopenError}
 use Rattle.nio_steps.specs.declared.selected.Selected.{Selected}
 use Rattle.nio_words.specs.Passes.{acts_seen, limits_of}
 use Rattle.nio_words.specs.Views.{view}
@@ -188,9 +192,9 @@ cancel_finds_none w p q at s k its is found = record {
 
 -- ---- channels
 
-pub made_find_channel : {answer : Option ChanId} (w : Words) (p q : Pass) (at : Station) (c : ChanNo)
+pub made_find_channel : {answer : Option ChanId} (w : Words) (p q : Pass) (at : Station) (c : ChanId)
     (found : Option ChanId) → answer ≡ found
-    → CallClause at.caller (Completes (find_channel_plan (limits_of w) c.0 0)) (view w p) (view w q) answer
+    → CallClause at.caller (Completes (find_channel_plan (limits_of w) c.number.0 c.serial)) (view w p) (view w q) answer
     → AreMade (board_of w p at) (board_of w q at) (finds_channel c found ∷ [])
 made_find_channel w p q at c found is clause =
     made_call w p q at (finds_channel c found) found is (λ _ run. run) clause
@@ -201,10 +205,10 @@ made_close : (w : Words) (p q : Pass) (at : Station) (c : ChanId) (first : Bool)
 made_close w p q at c first clause =
     made_call w p q at (table_call (close_channel c) first) first refl (λ _ run. run) clause
 
-pub closes_channel : {found : Option ChanId} (w : Words) (p q r : Pass) (at : Station) (c : ChanNo) (made : ChanId)
+pub closes_channel : {found : Option ChanId} (w : Words) (p q r : Pass) (at : Station) (c : ChanId) (made : ChanId)
     (first : Bool)
     → found ≡ Some made
-    → CallClause at.caller (Completes (find_channel_plan (limits_of w) c.0 0)) (view w p) (view w q) found
+    → CallClause at.caller (Completes (find_channel_plan (limits_of w) c.number.0 c.serial)) (view w p) (view w q) found
     → CallClause at.caller (Completes (close_channel_plan (limits_of w) made)) (view w q) (view w r) first
     → HasMade (board_of w p at) (board_of w r at) (ClosesChannel c)
 closes_channel w p q r at c made first is found closed = record {
@@ -214,8 +218,8 @@ closes_channel w p q r at c made first is found closed = record {
       (made_find_channel w p q at c (Some made) is found) (made_close w q r at made first closed);
 }
 
-pub close_finds_none : {found : Option ChanId} (w : Words) (p q : Pass) (at : Station) (c : ChanNo) → found ≡ None
-    → CallClause at.caller (Completes (find_channel_plan (limits_of w) c.0 0)) (view w p) (view w q) found
+pub close_finds_none : {found : Option ChanId} (w : Words) (p q : Pass) (at : Station) (c : ChanId) → found ≡ None
+    → CallClause at.caller (Completes (find_channel_plan (limits_of w) c.number.0 c.serial)) (view w p) (view w q) found
     → HasMade (board_of w p at) (board_of w q at) (ClosesChannel c)
 close_finds_none w p q at c is found = record {
   calls = finds_channel c None ∷ [];
@@ -225,8 +229,9 @@ close_finds_none w p q at c is found = record {
 
 -- ---- watching a channel
 
-pub fails_to_find : {found : Option ChanId} (w : Words) (p q : Pass) (at : Station) (c : ChanNo) → found ≡ None
-    → CallClause at.caller (Completes (find_channel_plan (limits_of w) c.0 0)) (view w p) (view w q) found
+pub fails_to_find : {found : Option ChanId} (w : Words) (p q : Pass) (at : Station) (c : ChanId) → found ≡ None
+    → CallClause at.caller (Completes (find_channel_plan (limits_of w) c.number.0 c.serial)) (view w p) (view w q)
+    found
     → HasMade (board_of w p at) (board_of w q at) (FailsToFind c)
 fails_to_find w p q at c is found = record {
   calls = finds_channel c None ∷ [];
@@ -234,9 +239,10 @@ fails_to_find w p q at c is found = record {
   made = made_find_channel w p q at c None is found;
 }
 
-pub finds_other : {found : Option ChanId} (w : Words) (p q : Pass) (at : Station) (c : ChanNo) (other : ChanId)
-    → found ≡ Some other → other ≢ first_channel c
-    → CallClause at.caller (Completes (find_channel_plan (limits_of w) c.0 0)) (view w p) (view w q) found
+pub finds_other : {found : Option ChanId} (w : Words) (p q : Pass) (at : Station) (c other : ChanId)
+    → found ≡ Some other → other ≢ c
+    → CallClause at.caller (Completes (find_channel_plan (limits_of w) c.number.0 c.serial)) (view w p) (view w q)
+    found
     → HasMade (board_of w p at) (board_of w q at) (FailsToFind c)
 finds_other w p q at c other is differs found = record {
   calls = finds_channel c (Some other) ∷ [];
@@ -252,7 +258,7 @@ made_open w p q at kind reply is clause =
     made_call w p q at (table_call (open_channel kind) reply) reply is (λ _ run. run) clause
 
 pub fails_to_open : {answer : Result ChanId ChannelError} (w : Words) (p q : Pass) (at : Station) (kind : Kind)
-    (c : ChanNo) (refusal : ChannelError) → answer ≡ Err refusal
+    (c : ChanId) (refusal : ChannelError) → answer ≡ Err refusal
     → CallClause at.caller (Completes (open_channel_plan (limits_of w) kind)) (view w p) (view w q) answer
     → HasMade (board_of w p at) (board_of w q at) (FailsToOpen kind c)
 fails_to_open w p q at kind c refusal is opened = record {
@@ -262,7 +268,7 @@ fails_to_open w p q at kind c refusal is opened = record {
 }
 
 pub opens_other : {answer : Result ChanId ChannelError} (w : Words) (p q r : Pass) (at : Station) (kind : Kind)
-    (c : ChanNo) (other : ChanId) (first : Bool) → answer ≡ Ok other → other ≢ first_channel c
+    (c other : ChanId) (first : Bool) → answer ≡ Ok other → other ≢ c
     → CallClause at.caller (Completes (open_channel_plan (limits_of w) kind)) (view w p) (view w q) answer
     → CallClause at.caller (Completes (close_channel_plan (limits_of w) other)) (view w q) (view w r) first
     → HasMade (board_of w p at) (board_of w r at) (FailsToOpen kind c)
@@ -273,40 +279,96 @@ opens_other w p q r at kind c other first is differs opened closed = record {
       (made_open w p q at kind (Ok other) is opened) (made_close w q r at other first closed);
 }
 
--- the table's channel, without a deal and with one
-pub takes_opened : {A E : Type 0} (a b : BoardView) (r : Result A E) (deal : Option Deal) (kind : Kind)
-    (next c : ChanNo) → deal ≡ None → next ≡ c → OnOk r (AreMade a b (takes None kind next ∷ []))
-    → OnOk r (AreMade a b (takes deal kind c ∷ []))
-takes_opened a b r deal kind next c none same taken =
-    subst (λ d. OnOk r (AreMade a b (takes d kind c ∷ []))) (sym none)
-    (subst (λ x. OnOk r (AreMade a b (takes None kind x ∷ []))) same taken)
+-- a later channel of a number
+
+made_reopen : {answer : Result ChanId ReopenError} (w : Words) (p q : Pass) (at : Station) (before : ChanId)
+    (reply : Result ChanId ReopenError) → answer ≡ reply
+    → CallClause at.caller (Completes (reopen_channel_plan (limits_of w) before)) (view w p) (view w q) answer
+    → AreMade (board_of w p at) (board_of w q at) (table_call (reopen_channel before) reply ∷ [])
+made_reopen w p q at before reply is clause =
+    made_call w p q at (table_call (reopen_channel before) reply) reply is (λ _ run. run) clause
+
+pub made_reopens : {answer : Result ChanId ReopenError} (w : Words) (p q r : Pass) (at : Station) (before : ChanId)
+    → answer ≡ Ok (after_it before)
+    → AreMade (board_of w p at) (board_of w q at) (finds_channel before (Some before) ∷ [])
+    → CallClause at.caller (Completes (reopen_channel_plan (limits_of w) before)) (view w q) (view w r) answer
+    → AreMade (board_of w p at) (board_of w r at) (reopens before)
+made_reopens w p q r at before is found reopens =
+    made_then (finds_channel before (Some before) ∷ []) (table_call (reopen_channel before) (Ok (after_it before)) ∷ [])
+    refl found (made_reopen w q r at before (Ok (after_it before)) is reopens)
+
+pub fails_to_reopen : {answer : Result ChanId ReopenError} (w : Words) (p q r : Pass) (at : Station) (before : ChanId)
+    (refusal : ReopenError) → answer ≡ Err refusal
+    → AreMade (board_of w p at) (board_of w q at) (finds_channel before (Some before) ∷ [])
+    → CallClause at.caller (Completes (reopen_channel_plan (limits_of w) before)) (view w q) (view w r) answer
+    → HasMade (board_of w p at) (board_of w r at) (FailsToReopen before)
+fails_to_reopen w p q r at before refusal is found reopens = record {
+  calls = finds_channel before (Some before) ∷ table_call (reopen_channel before) (Err refusal) ∷ [];
+  holds = reopen_refused refusal;
+  made = made_then (finds_channel before (Some before) ∷ []) (table_call (reopen_channel before) (Err refusal) ∷ [])
+      refl found (made_reopen w q r at before (Err refusal) is reopens);
+}
+
+pub before_isnt_found : {a b : BoardView} (before : ChanId) → HasMade a b (FailsToFind before)
+    → HasMade a b (FailsToReopen before)
+before_isnt_found before failed =
+    made_as (FailsToFind before) (FailsToReopen before) (λ _ finds. before_unfound finds) failed
+
+-- the channel after the one before it
+pub after_before : (c : ChanId) → 1 ≤ c.serial → after_it (record { number = c.number; serial = c.serial - 1 }) ≡ c
+after_before c some =
+    let serial : suc (c.serial - 1) ≡ c.serial = omega arith in
+    ap (λ (s : ℕ). let x : ChanId = record { number = c.number; serial = s } in x) serial
+
+-- a channel that is taken
+
+pub takes_opened : {A E : Type 0} (a b : BoardView) (r : Result A E) (deal : Option Deal) (kind : Kind) (c : ChanId)
+    → c.serial ≡ 0 → deal ≡ None → OnOk r (AreMade a b (opens kind c ∷ [])) → OnOk r (HasMade a b (Takes kind deal c))
+takes_opened a b (Ok value) deal kind c first none taken =
+    subst (λ d. HasMade a b (Takes kind d c)) (sym none)
+    (record { calls = opens kind c ∷ []; holds = first_opened first; made = taken })
+takes_opened a b (Err error) deal kind c first none taken = tt
 
 pub takes_found : {A E : Type 0} (a b : BoardView) (r : Result A E) (deal : Option Deal) (some : Deal) (kind : Kind)
-    (next c : ChanNo) → deal ≡ Some some → next ≡ c
-    → OnOk r (AreMade a b (finds_channel next (Some (first_channel next)) ∷ []))
-    → OnOk r (AreMade a b (takes deal kind c ∷ []))
-takes_found a b r deal some kind next c is same taken =
-    subst (λ d. OnOk r (AreMade a b (takes d kind c ∷ []))) (sym is)
-    (subst (λ x. OnOk r (AreMade a b (finds_channel x (Some (first_channel x)) ∷ []))) same taken)
+    (c : ChanId) → c.serial ≡ 0 → deal ≡ Some some → OnOk r (AreMade a b (finds_channel c (Some c) ∷ []))
+    → OnOk r (HasMade a b (Takes kind deal c))
+takes_found a b (Ok value) deal some kind c first is taken =
+    subst (λ d. HasMade a b (Takes kind d c)) (sym is)
+    (record { calls = finds_channel c (Some c) ∷ []; holds = first_found first; made = taken })
+takes_found a b (Err error) deal some kind c first is taken = tt
+
+pub takes_reopened : {A E : Type 0} (a b : BoardView) (r : Result A E) (deal : Option Deal) (kind : Kind)
+    (before c : ChanId) → after_it before ≡ c → OnOk r (AreMade a b (reopens before))
+    → OnOk r (HasMade a b (Takes kind deal c))
+takes_reopened a b (Ok value) deal kind before c is taken =
+    subst (λ x. HasMade a b (Takes kind deal x)) is
+    (record { calls = reopens before; holds = reopened before; made = taken })
+takes_reopened a b (Err error) deal kind before c is taken = tt
 
 pub take_isnt_opened : {A E : Type 0} (a b : BoardView) (r : Result A E) (deal : Option Deal) (kind : Kind)
-    (next c : ChanNo) → deal ≡ None → next ≡ c → OnErr r (HasMade a b (FailsToOpen kind next))
-    → OnErr r (HasMade a b (FailsToTake kind c deal))
-take_isnt_opened a b (Ok value) deal kind next c none same failed = tt
-take_isnt_opened a b (Err error) deal kind next c none same failed =
-    subst (λ d. HasMade a b (FailsToTake kind c d)) (sym none)
-    (made_as (FailsToOpen kind c) (FailsToTake kind c None) (λ _ opens. take_unopened opens)
-    (subst (λ x. HasMade a b (FailsToOpen kind x)) same failed))
+    (c : ChanId) → c.serial ≡ 0 → deal ≡ None → OnErr r (HasMade a b (FailsToOpen kind c))
+    → OnErr r (HasMade a b (FailsToTake kind deal c))
+take_isnt_opened a b (Ok value) deal kind c first none failed = tt
+take_isnt_opened a b (Err error) deal kind c first none failed =
+    subst (λ d. HasMade a b (FailsToTake kind d c)) (sym none)
+    (made_as (FailsToOpen kind c) (FailsToTake kind None c) (λ _ opens. take_unopened first opens) failed)
 
 pub take_isnt_found : {A E : Type 0} (a b : BoardView) (r : Result A E) (deal : Option Deal) (some : Deal)
-    (kind : Kind)
-    (next c : ChanNo) → deal ≡ Some some → next ≡ c → OnErr r (HasMade a b (FailsToFind next))
-    → OnErr r (HasMade a b (FailsToTake kind c deal))
-take_isnt_found a b (Ok value) deal some kind next c is same failed = tt
-take_isnt_found a b (Err error) deal some kind next c is same failed =
-    subst (λ d. HasMade a b (FailsToTake kind c d)) (sym is)
-    (made_as (FailsToFind c) (FailsToTake kind c (Some some)) (λ _ finds. take_unfound finds)
-    (subst (λ x. HasMade a b (FailsToFind x)) same failed))
+    (kind : Kind) (c : ChanId) → c.serial ≡ 0 → deal ≡ Some some → OnErr r (HasMade a b (FailsToFind c))
+    → OnErr r (HasMade a b (FailsToTake kind deal c))
+take_isnt_found a b (Ok value) deal some kind c first is failed = tt
+take_isnt_found a b (Err error) deal some kind c first is failed =
+    subst (λ d. HasMade a b (FailsToTake kind d c)) (sym is)
+    (made_as (FailsToFind c) (FailsToTake kind (Some some) c) (λ _ finds. take_unfound first finds) failed)
+
+pub take_isnt_reopened : {A E : Type 0} (a b : BoardView) (r : Result A E) (deal : Option Deal) (kind : Kind)
+    (before c : ChanId) → after_it before ≡ c → OnErr r (HasMade a b (FailsToReopen before))
+    → OnErr r (HasMade a b (FailsToTake kind deal c))
+take_isnt_reopened a b (Ok value) deal kind before c is failed = tt
+take_isnt_reopened a b (Err error) deal kind before c is failed =
+    subst (λ x. HasMade a b (FailsToTake kind deal x)) is
+    (made_as (FailsToReopen before) (FailsToTake kind deal (after_it before))
+    (λ _ reopens. take_unreopened before reopens) failed)
 
 -- the refusal, and that there is none
 pub refusal_of : {A E : Type 0} (r : Result A E) → is_err r ≡ true → (e : E) × (r ≡ Err e)
@@ -345,95 +407,75 @@ made_registration w p q at s c ops reply its is clause =
     made_call w p q at (waiting_call (register at.selector.number c ops 0) reply) reply is
     (λ acts run. subst (λ (x : SelNo). Registers (limits_of w) x c ops 0 acts reply) its run) clause
 
--- a call on a channel that is the first one of a number
-pub made_as_first : {a b : BoardView} (call : ChanId → Made) (c : ChanId) (next : ChanNo) → c ≡ first_channel next
-    → AreMade a b (call c ∷ []) → AreMade a b (call (first_channel next) ∷ [])
-made_as_first {a} {b} call c next same made = subst (λ (x : ChanId). AreMade a b (call x ∷ [])) same made
-
 pub fails_to_register : {answer : Result KeyNo ChannelError} (w : Words) (p q r : Pass) (at : Station) (s : SelNo)
-    (c : ChanId) (next : ChanNo) (ops : ℕ) (refusal : ChannelError) (first : Bool) → s ≡ at.selector.number
-    → c ≡ first_channel next → answer ≡ Err refusal
-    → CallClause at.caller (Registers (limits_of w) s c ops 0) (view w p) (view w q) answer
-    → CallClause at.caller (Completes (close_channel_plan (limits_of w) c)) (view w q) (view w r) first
-    → HasMade (board_of w p at) (board_of w r at) (FailsToRegister at.selector.number next ops)
-fails_to_register w p q r at s c next ops refusal first its same is registered closed = record {
-  calls = waiting_call (register at.selector.number (first_channel next) ops 0) (Err refusal)
-      ∷ table_call (close_channel (first_channel next)) first ∷ [];
+    (own : ChanId) (ops : ℕ) (refusal : ChannelError) (first : Bool) → s ≡ at.selector.number → answer ≡ Err refusal
+    → CallClause at.caller (Registers (limits_of w) s own ops 0) (view w p) (view w q) answer
+    → CallClause at.caller (Completes (close_channel_plan (limits_of w) own)) (view w q) (view w r) first
+    → HasMade (board_of w p at) (board_of w r at) (FailsToRegister at.selector.number own ops)
+fails_to_register w p q r at s own ops refusal first its is registered closed = record {
+  calls = waiting_call (register at.selector.number own ops 0) (Err refusal)
+      ∷ table_call (close_channel own) first ∷ [];
   holds = register_refused refusal first;
-  made = made_then (waiting_call (register at.selector.number (first_channel next) ops 0) (Err refusal) ∷ [])
-      (table_call (close_channel (first_channel next)) first ∷ []) refl
-      (made_as_first (λ x. waiting_call (register at.selector.number x ops 0) (Err refusal)) c next same
-      (made_registration w p q at s c ops (Err refusal) its is registered))
-      (made_as_first (λ x. table_call (close_channel x) first) c next same (made_close w q r at c first closed));
+  made = made_then (waiting_call (register at.selector.number own ops 0) (Err refusal) ∷ [])
+      (table_call (close_channel own) first ∷ []) refl (made_registration w p q at s own ops (Err refusal) its is registered)
+      (made_close w q r at own first closed);
 }
 
 pub watches_channel : {answer : Result (Unit {0}) ChannelError} (w : Words) (p q r t : Pass) (at : Station)
-    (kind : Kind) (c : ChanId) (next : ChanNo) (ops : ℕ) (k : KeyNo) → c ≡ first_channel next → answer ≡ Ok tt
-    → AreMade (board_of w p at) (board_of w q at) (takes at.deal kind next ∷ [])
-    → CallClause at.caller (SetsBlocking (limits_of w) c false) (view w q) (view w r) answer
-    → AreMade (board_of w r at) (board_of w t at) (registers at.selector.number next ops k ∷ [])
-    → HasMade (board_of w p at) (board_of w t at) (WatchesChannel at.deal at.selector.number kind next ops k)
-watches_channel w p q r t at kind c next ops k same is taken unblocked registered = record {
-  calls = takes at.deal kind next
-      ∷ waiting_call (set_blocking (first_channel next) false) (Ok tt)
-      ∷ registers at.selector.number next ops k ∷ [];
-  holds = channel_watched;
-  made = made_then (takes at.deal kind next ∷ [])
-      (waiting_call (set_blocking (first_channel next) false) (Ok tt)
-      ∷ registers at.selector.number next ops k ∷ []) refl
-      taken
-      (made_then (waiting_call (set_blocking (first_channel next) false) (Ok tt) ∷ [])
-      (registers at.selector.number next ops k ∷ []) refl
-      (made_as_first (λ x. waiting_call (set_blocking x false) (Ok tt)) c next same
-      (made_unblocked w q r at c (Ok tt) is unblocked)) registered);
+    (kind : Kind) (own : ChanId) (ops : ℕ) (k : KeyNo) → answer ≡ Ok tt
+    → HasMade (board_of w p at) (board_of w q at) (Takes kind at.deal own)
+    → CallClause at.caller (SetsBlocking (limits_of w) own false) (view w q) (view w r) answer
+    → AreMade (board_of w r at) (board_of w t at) (registers at.selector.number own ops k ∷ [])
+    → HasMade (board_of w p at) (board_of w t at) (WatchesChannel at.deal at.selector.number kind own ops k)
+watches_channel w p q r t at kind own ops k is taken unblocked registered = record {
+  calls = taken.calls
+      ++ waiting_call (set_blocking own false) (Ok tt) ∷ registers at.selector.number own ops k ∷ [];
+  holds = channel_watched taken.holds;
+  made = made_then taken.calls
+      (waiting_call (set_blocking own false) (Ok tt) ∷ registers at.selector.number own ops k ∷ []) refl taken.made
+      (made_then (waiting_call (set_blocking own false) (Ok tt) ∷ []) (registers at.selector.number own ops k ∷ [])
+      refl (made_unblocked w q r at own (Ok tt) is unblocked) registered);
 }
 
 pub watch_stays_blocking : {answer : Result (Unit {0}) ChannelError} (w : Words) (p q r t : Pass) (at : Station)
-    (kind : Kind) (c : ChanId) (next : ChanNo) (ops : ℕ) (first : Bool) → c ≡ first_channel next
-    → is_err answer ≡ true
-    → AreMade (board_of w p at) (board_of w q at) (takes at.deal kind next ∷ [])
-    → CallClause at.caller (SetsBlocking (limits_of w) c false) (view w q) (view w r) answer
-    → CallClause at.caller (Completes (close_channel_plan (limits_of w) c)) (view w r) (view w t) first
-    → HasMade (board_of w p at) (board_of w t at) (FailsToWatch at.deal at.selector.number kind next ops)
-watch_stays_blocking {answer} w p q r t at kind c next ops first same failed taken unblocked closed =
+    (kind : Kind) (own : ChanId) (ops : ℕ) (first : Bool) → is_err answer ≡ true
+    → HasMade (board_of w p at) (board_of w q at) (Takes kind at.deal own)
+    → CallClause at.caller (SetsBlocking (limits_of w) own false) (view w q) (view w r) answer
+    → CallClause at.caller (Completes (close_channel_plan (limits_of w) own)) (view w r) (view w t) first
+    → HasMade (board_of w p at) (board_of w t at) (FailsToWatch at.deal at.selector.number kind own ops)
+watch_stays_blocking {answer} w p q r t at kind own ops first failed taken unblocked closed =
     let refused = refusal_of answer failed in
     record {
-      calls = takes at.deal kind next
-          ∷ waiting_call (set_blocking (first_channel next) false) (Err refused.0)
-          ∷ table_call (close_channel (first_channel next)) first ∷ [];
-      holds = watch_still_blocking refused.0 first;
-      made = made_then (takes at.deal kind next ∷ [])
-          (waiting_call (set_blocking (first_channel next) false) (Err refused.0)
-          ∷ table_call (close_channel (first_channel next)) first ∷ []) refl taken
-          (made_then (waiting_call (set_blocking (first_channel next) false) (Err refused.0) ∷ [])
-          (table_call (close_channel (first_channel next)) first ∷ []) refl
-          (made_as_first (λ x. waiting_call (set_blocking x false) (Err refused.0)) c next same
-          (made_unblocked w q r at c (Err refused.0) refused.1 unblocked))
-          (made_as_first (λ x. table_call (close_channel x) first) c next same (made_close w r t at c first closed)));
+      calls = taken.calls
+          ++ waiting_call (set_blocking own false) (Err refused.0) ∷ table_call (close_channel own) first ∷ [];
+      holds = watch_still_blocking refused.0 first taken.holds;
+      made = made_then taken.calls
+          (waiting_call (set_blocking own false) (Err refused.0) ∷ table_call (close_channel own) first ∷ []) refl
+          taken.made
+          (made_then (waiting_call (set_blocking own false) (Err refused.0) ∷ [])
+          (table_call (close_channel own) first ∷ []) refl
+          (made_unblocked w q r at own (Err refused.0) refused.1 unblocked)
+          (made_close w r t at own first closed));
     }
 
 pub watch_isnt_registered : {answer : Result (Unit {0}) ChannelError} (w : Words) (p q r t : Pass) (at : Station)
-    (kind : Kind) (c : ChanId) (next : ChanNo) (ops : ℕ) → c ≡ first_channel next → answer ≡ Ok tt
-    → AreMade (board_of w p at) (board_of w q at) (takes at.deal kind next ∷ [])
-    → CallClause at.caller (SetsBlocking (limits_of w) c false) (view w q) (view w r) answer
-    → HasMade (board_of w r at) (board_of w t at) (FailsToRegister at.selector.number next ops)
-    → HasMade (board_of w p at) (board_of w t at) (FailsToWatch at.deal at.selector.number kind next ops)
-watch_isnt_registered w p q r t at kind c next ops same is taken unblocked failed = record {
-  calls = takes at.deal kind next
-      ∷ waiting_call (set_blocking (first_channel next) false) (Ok tt)
-      ∷ failed.calls;
-  holds = watch_not_registered failed.holds;
-  made = made_then (takes at.deal kind next ∷ [])
-      (waiting_call (set_blocking (first_channel next) false) (Ok tt) ∷ failed.calls) refl taken
-      (made_then (waiting_call (set_blocking (first_channel next) false) (Ok tt) ∷ []) failed.calls refl
-      (made_as_first (λ x. waiting_call (set_blocking x false) (Ok tt)) c next same
-      (made_unblocked w q r at c (Ok tt) is unblocked)) failed.made);
+    (kind : Kind) (own : ChanId) (ops : ℕ) → answer ≡ Ok tt
+    → HasMade (board_of w p at) (board_of w q at) (Takes kind at.deal own)
+    → CallClause at.caller (SetsBlocking (limits_of w) own false) (view w q) (view w r) answer
+    → HasMade (board_of w r at) (board_of w t at) (FailsToRegister at.selector.number own ops)
+    → HasMade (board_of w p at) (board_of w t at) (FailsToWatch at.deal at.selector.number kind own ops)
+watch_isnt_registered w p q r t at kind own ops is taken unblocked failed = record {
+  calls = taken.calls ++ waiting_call (set_blocking own false) (Ok tt) ∷ failed.calls;
+  holds = watch_not_registered taken.holds failed.holds;
+  made = made_then taken.calls (waiting_call (set_blocking own false) (Ok tt) ∷ failed.calls) refl taken.made
+      (made_then (waiting_call (set_blocking own false) (Ok tt) ∷ []) failed.calls refl
+      (made_unblocked w q r at own (Ok tt) is unblocked) failed.made);
 }
 
-pub watch_isnt_taken : {a b : BoardView} (deal : Option Deal) (s : SelNo) (kind : Kind) (c : ChanNo) (ops : ℕ)
-    → HasMade a b (FailsToTake kind c deal) → HasMade a b (FailsToWatch deal s kind c ops)
+pub watch_isnt_taken : {a b : BoardView} (deal : Option Deal) (s : SelNo) (kind : Kind) (c : ChanId) (ops : ℕ)
+    → HasMade a b (FailsToTake kind deal c) → HasMade a b (FailsToWatch deal s kind c ops)
 watch_isnt_taken deal s kind c ops failed =
-    made_as (FailsToTake kind c deal) (FailsToWatch deal s kind c ops) (λ _ takes. watch_not_taken takes) failed
+    made_as (FailsToTake kind deal c) (FailsToWatch deal s kind c ops) (λ _ takes. watch_not_taken takes) failed
 
 -- ---- selections
 

@@ -1,13 +1,12 @@
 -- What a call on the table adds to the calls that a board's caller has made.
-use Rattle.std.proofs.Common.{◌≡◌, ℕ, ◌+◌, true, false, if◌then◌else◌, is_some, IsTrue, Option, Some, Ok, Err, List}
+use Rattle.std.proofs.Common.{◌≡◌, ℕ, true, false, if◌then◌else◌, is_some, IsTrue, Option, Some, Ok, Err, List}
 use Rattle.std.proofs.Common.{[], ◌∷◌}
 use Rattle.std.specs.Prelude.{None, IfSome, option_map}
-use Rattle.std.proofs.Common.{◌++◌, refl, ap, sym, ◌∙◌, subst, append_assoc, add-one}
+use Rattle.std.proofs.Common.{◌++◌, refl, ap, sym, ◌∙◌, subst, append_assoc}
 use Rattle.std.proofs.lemmas.List.{append-nil}
 use Rattle.std.proofs.lemmas.Option.{IfSome_then}
 use Rattle.nio_base.specs.declared.limits.Limits.{Limits}
 use Rattle.nio_base.specs.declared.numbers.CallerNo.{CallerNo}
-use Rattle.nio_base.specs.Numbers.{first_channel}
 use Rattle.nio_base.specs.declared.numbers.ChanId.{ChanId}
 use Rattle.nio_base.specs.declared.numbers.KeyNo.{KeyNo}
 use Rattle.nio_base.specs.declared.numbers.SelNo.{SelNo}
@@ -29,9 +28,9 @@ use Rattle.nio_select.specs.InHand.{HeldList, HeldSelector, InHand, empty_list, 
 use Rattle.nio_select.specs.InProgress.{GivesBack, HasList, MaySelect, Selects}
 use Rattle.nio_select.specs.declared.stamp.Stamp.{Stamp}
 use Rattle.nio_board.proofs.Idle.{idle_after}
-use Rattle.nio_board.specs.Board.{HoldsList, IsAtRest, IsIdle, IsSelecting, board_of, next_channel, one_more}
+use Rattle.nio_board.specs.Board.{HoldsList, IsAtRest, IsIdle, IsSelecting, board_of, one_more}
 use Rattle.nio_board.specs.BoardLaws.{DrawnIsUnregistered}
-use Rattle.nio_board.specs.Called.{HasRegistered, IsUnregistered, channel_in, registration, registrations, seats}
+use Rattle.nio_board.specs.Called.{HasRegistered, IsUnregistered, registration, registrations, seats, table_channel}
 use Rattle.nio_board.specs.declared.board.Station.{Station}
 use Rattle.nio_board.specs.declared.deal.Deal.{Deal}
 use Rattle.nio_steps.proofs.BeginLaws.{begin-parts}
@@ -180,25 +179,27 @@ rest_after call free keeps did rest = rest_call call free.registers_nothing keep
 
 -- ---- a registration
 
-seats-more : (deal : Option Deal) (s : SelNo) (n : ℕ)
-    → seats deal s n ++ (s, first_channel (channel_in deal (record { 0 = n }))) ∷ [] ≡ seats deal s (n + 1)
-seats-more deal s n = ap (seats deal s) (sym (add-one n))
+seats-more : (deal : Option Deal) (s : SelNo) (cs : List ChanId) (c : ChanId)
+    → seats deal s cs ++ (s, table_channel deal c) ∷ [] ≡ seats deal s (cs ++ c ∷ [])
+seats-more deal s [] c = refl
+seats-more deal s (x ∷ cs) c =
+    ap (λ (those : List (SelNo × ChanId)). (s, table_channel deal x) ∷ those) (seats-more deal s cs c)
 
-pub rest_registered : {w : Words} {p q : Pass} {at : Station} (c : ChanId) (ops att : ℕ) (k : KeyNo)
-    → c ≡ first_channel (next_channel at)
-    → DidCall w p q at.caller (waiting_call (register at.selector.number c ops att) (Ok k))
-    → IsAtRest (board_of w p at) → IsAtRest (board_of w q (one_more at))
+pub rest_registered : {w : Words} {p q : Pass} {at : Station} (own c : ChanId) (ops att : ℕ) (k : KeyNo)
+    → own ≡ table_channel at.deal c
+    → DidCall w p q at.caller (waiting_call (register at.selector.number own ops att) (Ok k))
+    → IsAtRest (board_of w p at) → IsAtRest (board_of w q (one_more at c))
 unfolding those_are has_after call_more
-rest_registered {at = at} c ops att k next did rest =
-    let call = waiting_call (register at.selector.number c ops att) (Ok k) in
+rest_registered {at = at} own c ops att k is did rest =
+    let call = waiting_call (register at.selector.number own ops att) (Ok k) in
     record {
       idle = idle_after did.did did.ready did.unpinned rest.idle;
       watched = those_are
-          (ap (λ (x : ChanId). seats at.deal at.selector.number at.registered ++ (at.selector.number, x) ∷ []) next
-          ∙ seats-more at.deal at.selector.number at.registered)
+          (ap (λ (x : ChanId). seats at.deal at.selector.number at.registered ++ (at.selector.number, x) ∷ []) is
+          ∙ seats-more at.deal at.selector.number at.registered c)
           (has_after call rest.watched did tt);
       list = IfSome_then at.selector.list rest.list
-          (λ list holds. holds_after at (one_more at) rest.watched.calls call list refl refl did.did (λ _. refl)
+          (λ list holds. holds_after at (one_more at c) rest.watched.calls call list refl refl did.did (λ _. refl)
           holds);
     }
 
@@ -375,7 +376,7 @@ module _ {w : Words} {p q : Pass} {at : Station} where
 -- ---- a new board
 
 abbrev pub new_station : CallerNo → HeldSelector → Option Deal → Station
-new_station me s deal = record { caller = me; selector = s; deal = deal; registered = 0 }
+new_station me s deal = record { caller = me; selector = s; deal = deal; registered = [] }
 
 taken_list : (w : Words) (q : Pass) (at : Station) (calls : List Made) (o : Option HeldList)
     → IfSome o (λ (l : HeldList). l ≡ empty_list at.selector.number) → IfSome o (HasList (view w q) at.caller)

@@ -2,7 +2,6 @@
 use Rattle.std.proofs.Common.{◌≡◌, ℕ, Bool, Option, Some, Result, Ok, Err, refl, sym, subst}
 use Rattle.std.specs.Prelude.{IfSome, None, option_map}
 use Rattle.nio_base.specs.declared.kind.Kind.{Kind}
-use Rattle.nio_base.specs.Numbers.{first_channel}
 use Rattle.nio_base.specs.declared.numbers.ChanId.{ChanId}
 use Rattle.nio_base.specs.declared.numbers.KeyNo.{KeyNo}
 use Rattle.nio_base.specs.declared.numbers.SelNo.{SelNo}
@@ -16,19 +15,22 @@ use Rattle.nio_select.specs.declared.stamp.Stamp.{Stamp}
 use Rattle.nio_board.proofs.Calls.{DidCall, did_call, did_unpinned, rest_after, rest_registered, rest_left, rest_told}
 use Rattle.nio_board.proofs.Calls.{rest_again, rest_lent, rest_unbegun, selecting_begun, selecting_again}
 use Rattle.nio_board.proofs.Calls.{with_selector}
-use Rattle.nio_board.specs.Board.{IsAtRest, IsSameBoard, IsSelecting, board_of, next_channel, one_more}
+use Rattle.nio_board.specs.Board.{IsAtRest, IsSameBoard, IsSelecting, board_of, one_more}
+use Rattle.nio_board.specs.Called.{table_channel}
 use Rattle.nio_board.specs.declared.board.Station.{Station}
 use Rattle.nio_steps.proofs.PinLaws.{pins_are_given_back}
 use Rattle.nio_steps.specs.Calls.{CallClause}
-use Rattle.nio_steps.specs.ChannelCalls.{open_channel_plan, close_channel_plan, SetsBlocking, Registers}
+use Rattle.nio_steps.specs.ChannelCalls.{open_channel_plan, reopen_channel_plan, close_channel_plan, SetsBlocking, Registers}
 use Rattle.nio_steps.specs.KeyCalls.{find_plan, find_channel_plan, set_interest_plan, cancel_plan}
 use Rattle.nio_steps.specs.Runs.{Completes}
 use Rattle.nio_steps.specs.SelectCalls.{Selection, Begins, Poll, Tells, ToldReply, again, done, leave_plan}
-use Rattle.nio_steps.specs.TableCalls.{find, find_channel, set_interest, cancel, open_channel, set_blocking, register}
+use Rattle.nio_steps.specs.TableCalls.{find, find_channel, set_interest, cancel, open_channel, reopen_channel, set_blocking}
+use Rattle.nio_steps.specs.TableCalls.{register}
 use Rattle.nio_steps.specs.TableCalls.{close_channel, try_begin, told, leave}
 use Rattle.nio_steps.specs.declared.refusal.BeginError.{BeginError}
 use Rattle.nio_steps.specs.declared.refusal.ChannelError.{ChannelError}
 use Rattle.nio_steps.specs.declared.refusal.KeyError.{KeyError}
+use Rattle.nio_steps.specs.declared.refusal.ReopenError.{ReopenError}
 use Rattle.nio_steps.specs.declared.selected.Selected.{Selected}
 use Rattle.nio_words.specs.Passes.{IsReady, limits_of}
 use Rattle.nio_words.specs.Views.{view}
@@ -105,6 +107,16 @@ module _ {w : Words} {p q : Pass} {at : Station} where
       clause ready
       rest.idle.unpinned) rest
 
+  pub rest_reopened : (c : ChanId) {answer : Result ChanId ReopenError}
+      → CallClause at.caller (Completes (reopen_channel_plan (limits_of w) c)) (view w p) (view w q) answer
+      → IsReady w q at.caller → IsAtRest (board_of w p at) → IsAtRest (board_of w q at)
+  rest_reopened c {answer} clause ready rest =
+      rest_after (table_call (reopen_channel c) answer) (record { may_come = λ _. tt; registers_nothing = refl })
+      (λ _. refl)
+      (did_unpinned (table_call (reopen_channel c) answer) (λ _ run. run) (pins_are_given_back.reopen_channel _ _)
+      clause ready
+      rest.idle.unpinned) rest
+
   pub rest_closed : (c : ChanId) {answer : Bool}
       → CallClause at.caller (Completes (close_channel_plan (limits_of w) c)) (view w p) (view w q) answer
       → IsReady w q at.caller → HasNoPin (view w q) at.caller
@@ -135,16 +147,16 @@ module _ {w : Words} {p q : Pass} {at : Station} where
       (did_call (waiting_call (register s c ops att) (Err refusal))
       (λ acts run. subst (Registers (limits_of w) s c ops att acts) is run) clause ready none) rest
 
-  pub rest_watched : (s : SelNo) (c : ChanId) (ops att : ℕ) {answer : Result KeyNo ChannelError} (k : KeyNo)
-      → s ≡ at.selector.number → answer ≡ Ok k → c ≡ first_channel (next_channel at)
-      → CallClause at.caller (Registers (limits_of w) s c ops att) (view w p) (view w q) answer
+  pub rest_watched : (s : SelNo) (own c : ChanId) (ops att : ℕ) {answer : Result KeyNo ChannelError} (k : KeyNo)
+      → s ≡ at.selector.number → answer ≡ Ok k → own ≡ table_channel at.deal c
+      → CallClause at.caller (Registers (limits_of w) s own ops att) (view w p) (view w q) answer
       → IsReady w q at.caller → HasNoPin (view w q) at.caller
-      → IsAtRest (board_of w p at) → IsAtRest (board_of w q (one_more at))
-  rest_watched s c ops att k its is next clause ready none rest =
-      rest_registered c ops att k next
-      (did_call (waiting_call (register at.selector.number c ops att) (Ok k))
-      (λ acts run. subst (λ (x : SelNo). Registers (limits_of w) x c ops att acts (Ok k)) its
-      (subst (Registers (limits_of w) s c ops att acts) is run)) clause ready none) rest
+      → IsAtRest (board_of w p at) → IsAtRest (board_of w q (one_more at c))
+  rest_watched s own c ops att k its is same clause ready none rest =
+      rest_registered own c ops att k same
+      (did_call (waiting_call (register at.selector.number own ops att) (Ok k))
+      (λ acts run. subst (λ (x : SelNo). Registers (limits_of w) x own ops att acts (Ok k)) its
+      (subst (Registers (limits_of w) s own ops att acts) is run)) clause ready none) rest
 
   -- ---- selections
 

@@ -1,8 +1,9 @@
 -- What a board holds between two calls, and what a selection lists.
-use Rattle.std.specs.Prelude.{◌≡◌, ℕ, ◌+◌, IfSome, IsTrue, Option, None, Some, List, [], ◌∷◌, bit_and}
+use Rattle.std.specs.Prelude.{◌≡◌, ℕ, IfSome, IsTrue, Option, None, Some, List, [], ◌∷◌, ◌++◌, bit_and}
 use Rattle.std.specs.List.{All, flat_map}
 use Rattle.std.specs.List.Sorted.{IsNonDecreasingBy, IsPermutation}
 use Rattle.nio_base.specs.declared.numbers.CallerNo.{CallerNo}
+use Rattle.nio_base.specs.declared.numbers.ChanId.{ChanId}
 use Rattle.nio_base.specs.declared.numbers.ChanNo.{ChanNo}
 use Rattle.nio_base.specs.declared.numbers.SelNo.{SelNo}
 use Rattle.nio_history.specs.PassViews.{HasNoPin, HasSelector}
@@ -10,7 +11,7 @@ use Rattle.nio_orderly.specs.Made.{Made, after_calls}
 use Rattle.nio_select.specs.Asked.{key_at}
 use Rattle.nio_select.specs.InHand.{HeldList, HeldSelector}
 use Rattle.nio_select.specs.InProgress.{HasList, Selects}
-use Rattle.nio_board.specs.Called.{HasCalled, channel_in}
+use Rattle.nio_board.specs.Called.{HasCalled}
 use Rattle.nio_board.specs.declared.board.Station.{Station}
 use Rattle.nio_board.specs.declared.deal.Deal.{Deal}
 use Rattle.nio_base.specs.Ops.{is_within}
@@ -22,8 +23,8 @@ use Rattle.nio_words.specs.Views.{view}
 use Rattle.nio_words.specs.declared.words.Pass.{Pass}
 use Rattle.nio_words.specs.declared.words.Words.{Words}
 
--- what contracts see of a board. Its channels are numbered from 0 on in the order in which they are registered, and so
--- many were; the deal says which channels of the table they are
+-- what contracts see of a board. These channels were registered, in this order; the deal says which channels of the table
+-- they are
 pub record BoardView : Type 0 where
   pub words : Words
   pub pass : Pass
@@ -32,7 +33,7 @@ pub record BoardView : Type 0 where
   -- the selector's list, where the board has it, and no selection does
   pub list : Option HeldList
   pub deal : Option Deal
-  pub registered : ℕ
+  pub registered : List ChanId
 
 abbrev pub board_of : Words → Pass → Station → BoardView
 board_of w p station = record {
@@ -49,13 +50,9 @@ board_of w p station = record {
 abbrev pub selector_of : BoardView → HeldSelector
 selector_of board = record { number = board.selector; list = board.list }
 
--- the table's channel that is registered next
-abbrev pub next_channel : Station → ChanNo
-next_channel station = channel_in station.deal (record { 0 = station.registered })
-
--- once one channel more is registered
-abbrev pub one_more : Station → Station
-one_more station = record station { registered = station.registered + 1 }
+-- once this channel is registered too
+abbrev pub one_more : Station → ChanId → Station
+one_more station c = record station { registered = station.registered ++ c ∷ [] }
 
 -- the caller may step with the pass and has no pin, and the selector is made
 pub record IsIdle (w : Words) (p : Pass) (me : CallerNo) (s : SelNo) : Type 0 where
@@ -63,7 +60,7 @@ pub record IsIdle (w : Words) (p : Pass) (me : CallerNo) (s : SelNo) : Type 0 wh
   pub unpinned : HasNoPin (view w p) me
   pub selector : HasSelector (view w p) s
 
--- the caller made whole calls, and registered the board's first channels, so many, with its selector, and nothing else
+-- the caller made whole calls, and registered these channels of the board with its selector, and nothing else
 abbrev pub HasWatched : BoardView → Type 0
 HasWatched board =
     HasCalled (limits_of board.words) (acts_seen board.pass board.caller) board.deal board.selector board.registered

@@ -1,8 +1,7 @@
 -- Which calls a board's caller makes on the table in a call of the board, each with its reply.
-use Rattle.std.specs.Prelude.{◌≡◌, ◌≢◌, ◌⊎◌, ℕ, ◌-◌, ◌^◌, ◌<◌, ◌≤◌, Bool, false, Option, Some, None, Ok, Err, List}
-use Rattle.std.specs.Prelude.{[], ◌∷◌, ◌++◌}
+use Rattle.std.specs.Prelude.{◌≡◌, ◌≢◌, ℕ, suc, ◌^◌, ◌≤◌, Bool, false, Option, Some, None, Ok, Err, List, [], ◌∷◌, ◌++◌}
 use Rattle.nio_base.specs.declared.kind.Kind.{Kind}
-use Rattle.nio_base.specs.declared.numbers.ChanNo.{ChanNo}
+use Rattle.nio_base.specs.declared.numbers.ChanId.{ChanId}
 use Rattle.nio_base.specs.declared.numbers.KeyNo.{KeyNo}
 use Rattle.nio_base.specs.declared.numbers.SelNo.{SelNo}
 use Rattle.nio_history.specs.declared.act.Act.{Act}
@@ -11,19 +10,19 @@ use Rattle.nio_orderly.specs.Made.{Made, table_call, waiting_call}
 use Rattle.nio_orderly.specs.Orderly.{AreRuns, Parts}
 use Rattle.nio_select.specs.InHand.{HeldSelector, known_by}
 use Rattle.nio_board.specs.Board.{BoardView}
-use Rattle.nio_board.specs.Called.{channel_in}
+use Rattle.nio_board.specs.Called.{table_channel}
 use Rattle.nio_board.specs.declared.deal.Deal.{Deal}
 use Rattle.nio_steps.specs.SelectCalls.{Selection, Poll, done, again}
-use Rattle.nio_steps.specs.TableCalls.{find, find_channel, set_interest, cancel, open_channel, close_channel}
+use Rattle.nio_steps.specs.TableCalls.{find, find_channel, set_interest, cancel, open_channel, reopen_channel}
+use Rattle.nio_steps.specs.TableCalls.{close_channel}
 use Rattle.nio_steps.specs.TableCalls.{try_begin}
 use Rattle.nio_steps.specs.TableCalls.{told, leave, set_blocking, register}
 use Rattle.nio_steps.specs.declared.refusal.BeginError.{BeginError}
 use Rattle.nio_steps.specs.declared.refusal.ChannelError.{ChannelError}
 use Rattle.nio_steps.specs.declared.refusal.KeyError.{KeyError}
+use Rattle.nio_steps.specs.declared.refusal.ReopenError.{ReopenError}
 use Rattle.nio_steps.specs.declared.selected.Selected.{Selected}
 use Rattle.nio_words.specs.Passes.{acts_seen, limits_of}
-use Rattle.nio_base.specs.Numbers.{first_channel}
-use Rattle.nio_base.specs.declared.numbers.ChanId.{ChanId}
 
 -- From one moment of a board to a later one its caller made these calls on the table, each whole, one after the other,
 -- and did nothing else there.
@@ -44,9 +43,9 @@ pub record HasMade (before now : BoardView) (Holds : List Made → Type 0) : Typ
 abbrev pub finds : SelNo → KeyNo → Option KeyNo → Made
 finds s k found = table_call (find s k.index k.serial) found
 
--- the same of the first channel of a number
-abbrev pub finds_channel : ChanNo → Option ChanId → Made
-finds_channel c found = table_call (find_channel c.0 0) found
+-- the same of a channel, in the table
+abbrev pub finds_channel : ChanId → Option ChanId → Made
+finds_channel c found = table_call (find_channel c.number.0 c.serial) found
 
 -- it finds the key, and sets its interest set
 pub data SetsInterest (s : SelNo) (k : KeyNo) (ops : ℕ) : List Made → Type 0 where
@@ -65,15 +64,15 @@ pub data CancelsKey (s : SelNo) (k : KeyNo) : List Made → Type 0 where
   key_cancelled : (found : KeyNo) → CancelsKey s k (finds s k (Some found) ∷ table_call (cancel found) tt ∷ [])
 
 -- It closes the channel, where it finds it. A number of 2^32 and more is of no channel.
-pub data ClosesChannel (c : ChanNo) : List Made → Type 0 where
-  no_number : 2 ^ 32 ≤ c.0 → ClosesChannel c []
+pub data ClosesChannel (c : ChanId) : List Made → Type 0 where
+  no_number : 2 ^ 32 ≤ c.number.0 → ClosesChannel c []
   channel_not_found : ClosesChannel c (finds_channel c None ∷ [])
   channel_closed : (found : ChanId) (first : Bool)
       → ClosesChannel c (finds_channel c (Some found) ∷ table_call (close_channel found) first ∷ [])
 
 -- it cancels the key, and then closes the board's channel
-abbrev pub Unwatches : Option Deal → SelNo → KeyNo → ChanNo → List Made → Type 0
-Unwatches deal s k c = Parts (CancelsKey s k) (ClosesChannel (channel_in deal c))
+abbrev pub Unwatches : Option Deal → SelNo → KeyNo → ChanId → List Made → Type 0
+Unwatches deal s k c = Parts (CancelsKey s k) (ClosesChannel (table_channel deal c))
 
 -- ---- selections
 
@@ -100,64 +99,75 @@ pub data LeavesSelection (selection : Selection) : List Made → Type 0 where
 
 -- ---- watching a channel
 
--- it has the table's channel: without a deal the table opens it, with one the table finds it
-abbrev pub takes : Option Deal → Kind → ChanNo → Made
-takes None kind c = table_call (open_channel kind) (Ok (first_channel c))
-takes (Some deal) kind c = finds_channel c (Some (first_channel c))
+-- the next channel of the same number
+abbrev pub after_it : ChanId → ChanId
+after_it c = record { number = c.number; serial = suc c.serial }
+
+-- the table opens this channel
+abbrev pub opens : Kind → ChanId → Made
+opens kind c = table_call (open_channel kind) (Ok c)
+
+-- it finds a channel, which is closed, and reopens it: that opens the next one of its number
+abbrev pub reopens : ChanId → List Made
+reopens before = finds_channel before (Some before) ∷ table_call (reopen_channel before) (Ok (after_it before)) ∷ []
+
+-- It has the table's channel. The first one of a number is opened without a deal, and found with one. A later one is had by
+-- reopening the one before it.
+pub data Takes (kind : Kind) : Option Deal → ChanId → List Made → Type 0 where
+  first_opened : {c : ChanId} → c.serial ≡ 0 → Takes kind None c (opens kind c ∷ [])
+  first_found : {deal : Deal} {c : ChanId} → c.serial ≡ 0 → Takes kind (Some deal) c (finds_channel c (Some c) ∷ [])
+  reopened : {deal : Option Deal} (before : ChanId) → Takes kind deal (after_it before) (reopens before)
 
 -- it registers the channel, which answers this key
-abbrev pub registers : SelNo → ChanNo → ℕ → KeyNo → Made
-registers s c ops k = waiting_call (register s (first_channel c) ops 0) (Ok k)
+abbrev pub registers : SelNo → ChanId → ℕ → KeyNo → Made
+registers s c ops k = waiting_call (register s c ops 0) (Ok k)
 
 -- the table opens no channel, or another one, which it closes
-pub data FailsToOpen (kind : Kind) (c : ChanNo) : List Made → Type 0 where
+pub data FailsToOpen (kind : Kind) (c : ChanId) : List Made → Type 0 where
   open_refused : (refusal : ChannelError) → FailsToOpen kind c (table_call (open_channel kind) (Err refusal) ∷ [])
-  opened_other : (other : ChanId) (first : Bool) → other ≢ first_channel c
+  opened_other : (other : ChanId) (first : Bool) → other ≢ c
       → FailsToOpen kind c (table_call (open_channel kind) (Ok other) ∷ table_call (close_channel other) first ∷ [])
 
 -- the table finds no channel, or another one
-pub data FailsToFind (c : ChanNo) : List Made → Type 0 where
+pub data FailsToFind (c : ChanId) : List Made → Type 0 where
   found_none : FailsToFind c (finds_channel c None ∷ [])
-  found_other : (other : ChanId) → other ≢ first_channel c → FailsToFind c (finds_channel c (Some other) ∷ [])
+  found_other : (other : ChanId) → other ≢ c → FailsToFind c (finds_channel c (Some other) ∷ [])
+
+-- the table doesn't find the channel before it, or refuses to reopen that
+pub data FailsToReopen (before : ChanId) : List Made → Type 0 where
+  before_unfound : {calls : List Made} → FailsToFind before calls → FailsToReopen before calls
+  reopen_refused : (refusal : ReopenError)
+      → FailsToReopen before
+      (finds_channel before (Some before) ∷ table_call (reopen_channel before) (Err refusal) ∷ [])
 
 -- it hasn't the channel; for a number of 2^32 and more it makes no call
-pub data FailsToTake (kind : Kind) (c : ChanNo) : Option Deal → List Made → Type 0 where
-  take_no_number : {deal : Option Deal} → 2 ^ 32 ≤ c.0 → FailsToTake kind c deal []
-  take_unopened : {calls : List Made} → FailsToOpen kind c calls → FailsToTake kind c None calls
-  take_unfound : {deal : Deal} {calls : List Made} → FailsToFind c calls → FailsToTake kind c (Some deal) calls
+pub data FailsToTake (kind : Kind) : Option Deal → ChanId → List Made → Type 0 where
+  take_no_number : {deal : Option Deal} {c : ChanId} → 2 ^ 32 ≤ c.number.0 → FailsToTake kind deal c []
+  take_unopened : {c : ChanId} {calls : List Made} → c.serial ≡ 0 → FailsToOpen kind c calls
+      → FailsToTake kind None c calls
+  take_unfound : {deal : Deal} {c : ChanId} {calls : List Made} → c.serial ≡ 0 → FailsToFind c calls
+      → FailsToTake kind (Some deal) c calls
+  take_unreopened : {deal : Option Deal} (before : ChanId) {calls : List Made} → FailsToReopen before calls
+      → FailsToTake kind deal (after_it before) calls
 
 -- it is refused the registration of the channel, and closes it
-pub data FailsToRegister (s : SelNo) (c : ChanNo) (ops : ℕ) : List Made → Type 0 where
+pub data FailsToRegister (s : SelNo) (c : ChanId) (ops : ℕ) : List Made → Type 0 where
   register_refused : (refusal : ChannelError) (first : Bool)
       → FailsToRegister s c ops
-      (waiting_call (register s (first_channel c) ops 0) (Err refusal)
-      ∷ table_call (close_channel (first_channel c)) first ∷ [])
+      (waiting_call (register s c ops 0) (Err refusal) ∷ table_call (close_channel c) first ∷ [])
 
 -- it takes the channel, makes it non-blocking and registers it, which answers this key
-pub data WatchesChannel (deal : Option Deal) (s : SelNo) (kind : Kind) (c : ChanNo) (ops : ℕ) (k : KeyNo)
+pub data WatchesChannel (deal : Option Deal) (s : SelNo) (kind : Kind) (c : ChanId) (ops : ℕ) (k : KeyNo)
     : List Made → Type 0 where
-  channel_watched : WatchesChannel deal s kind c ops k
-      (takes deal kind c ∷ waiting_call (set_blocking (first_channel c) false) (Ok tt) ∷ registers s c ops k ∷ [])
+  channel_watched : {taking : List Made} → Takes kind deal c taking
+      → WatchesChannel deal s kind c ops k
+      (taking ++ waiting_call (set_blocking c false) (Ok tt) ∷ registers s c ops k ∷ [])
 
 -- one of the three fails, and a channel that it took is closed
-pub data FailsToWatch (deal : Option Deal) (s : SelNo) (kind : Kind) (c : ChanNo) (ops : ℕ) : List Made → Type 0 where
-  watch_not_taken : {calls : List Made} → FailsToTake kind c deal calls → FailsToWatch deal s kind c ops calls
-  watch_still_blocking : (refusal : ChannelError) (first : Bool)
+pub data FailsToWatch (deal : Option Deal) (s : SelNo) (kind : Kind) (c : ChanId) (ops : ℕ) : List Made → Type 0 where
+  watch_not_taken : {calls : List Made} → FailsToTake kind deal c calls → FailsToWatch deal s kind c ops calls
+  watch_still_blocking : {taking : List Made} (refusal : ChannelError) (first : Bool) → Takes kind deal c taking
       → FailsToWatch deal s kind c ops
-      (takes deal kind c
-      ∷ waiting_call (set_blocking (first_channel c) false) (Err refusal)
-      ∷ table_call (close_channel (first_channel c)) first ∷ [])
-  watch_not_registered : {calls : List Made} → FailsToRegister s c ops calls
-      → FailsToWatch deal s kind c ops
-      (takes deal kind c ∷ waiting_call (set_blocking (first_channel c) false) (Ok tt) ∷ calls)
-
--- the channel is the next one of the board, whose numbers have room for one more
-pub record IsNext (board : BoardView) (chan : ChanNo) : Type 0 where
-  pub number : chan.0 ≡ board.registered
-  pub room : chan.0 < 2 ^ 32 - 1
-
--- the channel isn't the next one, and it makes no call; or it calls, and fails to watch it
-abbrev pub IsWatchRefused : BoardView → BoardView → Kind → ChanNo → ℕ → Type 0
-IsWatchRefused before now kind chan ops =
-    ((¬ IsNext before chan) × AreMade before now [])
-    ⊎ HasMade before now (FailsToWatch before.deal before.selector kind (channel_in before.deal chan) ops)
+      (taking ++ waiting_call (set_blocking c false) (Err refusal) ∷ table_call (close_channel c) first ∷ [])
+  watch_not_registered : {taking calls : List Made} → Takes kind deal c taking → FailsToRegister s c ops calls
+      → FailsToWatch deal s kind c ops (taking ++ waiting_call (set_blocking c false) (Ok tt) ∷ calls)

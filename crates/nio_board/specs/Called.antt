@@ -1,5 +1,5 @@
 -- The channels of a board, as its table numbers them, and the calls that its caller made on the table.
-use Rattle.std.specs.Prelude.{◌≡◌, ℕ, zero, suc, ◌+◌, ◌-◌, ◌*◌, ◌/◌, ◌%◌, ◌==◌, if◌then◌else◌, max, Option, Some, None}
+use Rattle.std.specs.Prelude.{◌≡◌, ◌+◌, ◌-◌, ◌*◌, ◌/◌, ◌%◌, ◌==◌, if◌then◌else◌, max, Option, Some, None}
 use Rattle.std.specs.Prelude.{List, [], ◌∷◌, ◌++◌}
 use Rattle.nio_base.specs.declared.limits.Limits.{Limits}
 use Rattle.nio_base.specs.declared.numbers.ChanNo.{ChanNo}
@@ -9,7 +9,6 @@ use Rattle.nio_orderly.specs.Made.{Made, draw, table_call, waiting_call}
 use Rattle.nio_orderly.specs.Orderly.{AreCallsOf}
 use Rattle.nio_board.specs.declared.deal.Deal.{Deal}
 use Rattle.nio_steps.specs.TableCalls.{row_of, wait_row_of}
-use Rattle.nio_base.specs.Numbers.{first_channel}
 use Rattle.nio_base.specs.declared.numbers.ChanId.{ChanId}
 
 -- ---- the channels of a board
@@ -32,11 +31,14 @@ board_channel deal c =
     if c.0 == deal.listener.0 then record { 0 = 0 }
     else record { 0 = 2 * ((c.0 - 1) / 2 / max deal.workers 1) + 1 + (c.0 - 1) % 2 }
 
--- the selector with each of the board's channels below n, in their order, as the table names them: each is the first
--- channel of its number
-abbrev pub seats : Option Deal → SelNo → ℕ → List (SelNo × ChanId)
-seats deal s zero = []
-seats deal s (suc n) = seats deal s n ++ (s, first_channel (channel_in deal (record { 0 = n }))) ∷ []
+-- the same of a channel of a number: its serial is the table's
+abbrev pub table_channel : Option Deal → ChanId → ChanId
+table_channel deal c = record { number = channel_in deal c.number; serial = c.serial }
+
+-- the selector with each of these channels of the board, as the table names them
+abbrev pub seats : Option Deal → SelNo → List ChanId → List (SelNo × ChanId)
+seats deal s [] = []
+seats deal s (c ∷ rest) = (s, table_channel deal c) ∷ seats deal s rest
 
 -- ---- the calls of a caller
 
@@ -58,8 +60,8 @@ pub record HasRegistered (l : Limits) (own : List Act) (those : List (SelNo × C
   pub are : AreCallsOf l own calls
   pub registered : registrations calls ≡ those
 
--- it registered so many of a board's channels with the board's selector, in the order of their numbers
-abbrev pub HasCalled : Limits → List Act → Option Deal → SelNo → ℕ → Type 0
+-- it registered these channels of a board with the board's selector, in this order
+abbrev pub HasCalled : Limits → List Act → Option Deal → SelNo → List ChanId → Type 0
 HasCalled l own deal s registered = HasRegistered l own (seats deal s registered)
 
 -- it registered nothing

@@ -1,5 +1,5 @@
 //! What one caller of a table serves by.
-ghost use Rattle.std.specs.Prelude.{◌≡◌, ◌+◌, None, IfErr, IfOk, IfSome, OnErr, OnOk, is_some};
+ghost use Rattle.std.specs.Prelude.{◌≡◌, ◌++◌, [], ◌∷◌, None, IfErr, IfOk, IfSome, OnErr, OnOk, is_some};
 ghost use Rattle.nio_history.specs.PassViews.{HasNoPin};
 ghost use Rattle.nio_poller.specs.Polls.{CountsFaults, told_of_channel};
 ghost use Rattle.nio_poller.specs.declared.poller.PollError.TheVariants.{Fault};
@@ -13,12 +13,13 @@ ghost use Rattle.nio_words.specs.Views.{view};
 ghost use Rattle.nio_board.specs.Called.{HasCalled, IsUnregistered};
 
 use self::selection::{begin, end, leave, poll, tell};
-use self::table::{set_interest_of, unwatch_port, watch_next};
+use self::table::{set_interest_of, unwatch_port, watch_channel};
 use crate::deal::Deal;
 use crate::polls::Polls;
-use nio_base::{CallerNo, ChanNo, KeyNo, Kind, Ops, SelNo};
+use nio_base::{CallerNo, ChanId, ChanNo, KeyNo, Kind, Ops, SelNo};
 use nio_poller::PollError;
 use nio_select::{Selecting, Selector, Told, open_selector};
+use nio_trace::Trace;
 use nio_words::{Pass, Words};
 use std::alloc::{AllocError, Global};
 use std::marker::Model;
@@ -27,13 +28,13 @@ use std::sync::Wait;
 mod selection;
 mod table;
 
-/// The caller of a board, its selector, its deal, and how many channels it has registered.
+/// The caller of a board, its selector, its deal, and, in proofs alone, which channels it has registered.
 #[derive(Drop)]
 pub(crate) struct Station {
     caller: CallerNo,
     selector: Selector,
     deal: Option<Deal>,
-    registered: u32,
+    registered: Trace<ChanId>,
 }
 
 /// A table, on which other callers may make calls too, with what one of its callers serves by: a pass that has the
@@ -42,9 +43,10 @@ pub(crate) struct Station {
 /// A new board takes the list of its selector, where nobody has that. Its selections then look only at the keys that
 /// were touched since the selection before. The list is lent to a selection, and comes back when that ends or is left.
 ///
-/// The board's channels are numbered from 0 on, and are registered in this order, each once. Without a deal the board
-/// opens each as the table's next channel, so the table has to number them so too. With a deal another caller has
-/// opened them, and the deal says which channels of the table they are.
+/// Without a deal the board's channels are those of the table. It opens the first channel of a number as the table's next
+/// one, so these have to be watched in the order of the table's numbers. With a deal another caller has opened the first
+/// ones, and the deal says which numbers of the table the board's are. A number serves again by its next channel, once the
+/// one before is closed and no key of it is in a key set.
 #[derive(Drop)]
 pub struct Board<'a> {
     words: &'a Words,
@@ -68,7 +70,7 @@ pub struct Port {
     /// The key.
     pub key: KeyNo,
     /// The channel.
-    pub chan: ChanNo,
+    pub chan: ChanId,
 }
 
 /// The table refused a call.
@@ -78,10 +80,10 @@ pub struct Refused;
 impl<'a> Board<'a> {
     ghost use Rattle.nio_board.specs.Board.{AreOrdered, AreReady, IsIdle, IsSameBoard, IsSameSeat, IsSelecting};
     ghost use Rattle.nio_board.specs.Board.{ListsTold, selector_of};
-    ghost use Rattle.nio_board.specs.BoardCalls.{BeginsSelection, FailsToBegin, FailsToSet, HasMade};
-    ghost use Rattle.nio_board.specs.BoardCalls.{IsWatchRefused, LeavesSelection, SetsInterest, TellsPoll};
+    ghost use Rattle.nio_board.specs.BoardCalls.{BeginsSelection, FailsToBegin, FailsToSet, FailsToWatch, HasMade};
+    ghost use Rattle.nio_board.specs.BoardCalls.{LeavesSelection, SetsInterest, TellsPoll};
     ghost use Rattle.nio_board.specs.BoardCalls.{Unwatches, WatchesChannel};
-    ghost use Rattle.nio_board.specs.Called.{channel_in};
+    ghost use Rattle.nio_board.specs.Called.{table_channel};
     ghost use Rattle.nio_board.specs.Polling.{FailsToSelect, SelectsOnce};
 
     /// A board with a selector that was opened before, by a caller that has registered nothing.
@@ -99,7 +101,7 @@ impl<'a> Board<'a> {
         ensures caller { result.caller ≡ caller }
         ensures selector { result.selector ≡ selector }
         ensures deal { result.deal ≡ deal }
-        ensures registered { result.registered ≡ 0 }
+        ensures registered { result.registered ≡ [] }
         ensures list { IfSome result.list (λ list. list ≡ empty_list selector) }
         ensures call { CallClause caller (Completes (take_list_plan selector)) (view words.now pass)
             (view words.now result.pass) (is_some result.list) }
@@ -113,7 +115,7 @@ impl<'a> Board<'a> {
                 caller,
                 selector,
                 deal,
-                registered: 0,
+                registered: Trace::new(),
             },
         }
     }
@@ -132,7 +134,7 @@ impl<'a> Board<'a> {
         ensures words { IfOk result (λ board. board.words ≡ words.now) }
         ensures caller { IfOk result (λ board. board.caller ≡ caller) }
         ensures deal { IfOk result (λ board. board.deal ≡ None) }
-        ensures registered { IfOk result (λ board. board.registered ≡ 0) }
+        ensures registered { IfOk result (λ board. board.registered ≡ []) }
         ensures list { IfOk result (λ board. IfSome board.list (λ list. list ≡ empty_list board.selector)) }
     {
         let mut pass = pass;
@@ -142,43 +144,48 @@ impl<'a> Board<'a> {
         }
     }
 
-    /// Gives the pass back, and says how many channels were registered.
-    pub fn into_pass(self) -> (Pass, u32)
-        ensures pass { result.0 ≡ self.entry.pass }
-        ensures registered { result.1 ≡ self.entry.registered }
-        ensures idle { IsIdle self.entry.words result.0 self.entry.caller self.entry.selector }
-        ensures called { HasCalled (limits_of self.entry.words) (acts_seen result.0 self.entry.caller) self.entry.deal
-            self.entry.selector result.1 }
+    /// Gives the pass back.
+    pub fn into_pass(self) -> Pass
+        ensures pass { result ≡ self.entry.pass }
+        ensures idle { IsIdle self.entry.words result self.entry.caller self.entry.selector }
+        ensures called { HasCalled (limits_of self.entry.words) (acts_seen result self.entry.caller) self.entry.deal
+            self.entry.selector self.entry.registered }
     {
-        (self.pass, self.station.registered)
+        self.pass
     }
 
-    /// Registers the board's next channel for these operations: without a deal it opens one of this kind, with a deal
-    /// it takes the channel that another caller has opened. Refused where `chan` isn't the next one, where the table
-    /// hasn't such a channel, or numbers the one that it opens otherwise, where the channel is closed, or where the
-    /// selector has no key left.
+    /// Registers a channel for these operations. The first channel of a number is opened, of this kind; with a deal
+    /// another caller has opened it. A later one is opened by giving the number again, whose kind stays: refused where the
+    /// channel before it isn't closed, or a key of it is still in a key set. (A selection on the board removes the keys that
+    /// were cancelled before it began.) Refused too where the table hasn't such a channel, or numbers the one that it opens
+    /// otherwise, or where the selector has no key left.
     pub fn watch<R: Wait>(
         &mut self,
         rt: &R,
-        chan: ChanNo,
+        chan: ChanId,
         kind: Kind,
         ops: Ops,
     ) -> Result<Port, Refused>
         ensures seat { IsSameSeat self.old self.new }
         ensures its { IfOk result (λ port. port.chan ≡ chan) }
-        ensures next { IfOk result (λ _. chan.0 ≡ self.old.registered) }
-        ensures more { IfOk result (λ _. self.new.registered ≡ self.old.registered + 1) }
+        ensures more { OnOk result (self.new.registered ≡ self.old.registered ++ chan ∷ []) }
         ensures list { self.new.list ≡ self.old.list }
         ensures same { OnErr result (self.new.registered ≡ self.old.registered) }
         ensures made { IfOk result (λ port. HasMade self.old self.new (WatchesChannel self.old.deal self.old.selector
-            kind (channel_in self.old.deal chan) ops port.key)) }
-        ensures refused { OnErr result (IsWatchRefused self.old self.new kind chan ops) }
+            kind (table_channel self.old.deal chan) ops port.key)) }
+        ensures refused { OnErr result (HasMade self.old self.new (FailsToWatch self.old.deal self.old.selector kind
+            (table_channel self.old.deal chan) ops)) }
     {
-        if chan.0 != self.station.registered || chan.0 == u32::MAX {
-            return Err(Refused);
-        }
-        let key = watch_next(rt, self.words, &mut self.pass, &self.station, kind, ops)?;
-        self.station.registered += 1;
+        let key = watch_channel(
+            rt,
+            self.words,
+            &mut self.pass,
+            &self.station,
+            chan,
+            kind,
+            ops,
+        )?;
+        self.station.registered.push(&chan);
         Ok(Port { key, chan })
     }
 

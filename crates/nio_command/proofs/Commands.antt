@@ -11,7 +11,7 @@ use Rattle.nio_command.specs.Options.{AreOptions, Text, Written, apart, given, j
 use Rattle.nio_command.specs.Texts.{AreNoOptions, AreNoPacketOptions, IsNoOption}
 use Rattle.nio_command.specs.Values.{PacketValues, ProxyValues, packet_options, proxy_options}
 use Rattle.nio_command.specs.Words.{AsksFor, AsksForPackets, AsksForWay, AsksForWorkers, IsCommand, IsPacketsCommand}
-use Rattle.nio_command.specs.Words.{IsProxyCommand}
+use Rattle.nio_command.specs.Words.{IsProxyCommand, most_connections}
 use Rattle.nio_relay.specs.declared.plan.PacketPlan.{PacketPlan}
 use Rattle.nio_command.proofs.Addresses.{address_plain}
 use Rattle.nio_command.proofs.Numbers.{decimal_plain}
@@ -123,6 +123,12 @@ plain_workers text workers (Group count) h = plain_count 64 workers count (omega
 plain_workers text workers Future h = subst (λ (o : Option Text). IfSome o IsNoOption) (sym h.1) tt
 plain_workers text workers (Many count) h = plain_count 15 workers count (omega arith) h.1
 
+few_connections : (way : ProxyWay) → most_connections way ≤ 4294967295
+few_connections Select = omega arith
+few_connections (Group count) = omega arith
+few_connections Future = omega arith
+few_connections (Many count) = omega arith
+
 -- no value that asks for a plan begins with a hyphen
 pub plain_values : (v : ProxyValues) (plan : ProxyPlan) (way : ProxyWay) → AsksFor v plan way → AreNoOptions v
 plain_values v plan way h = record {
@@ -130,7 +136,7 @@ plain_values v plan way h = record {
   listen = subst IsNoOption (sym h.listen) (address_plain plan.listen h.in_range.listen);
   target = subst IsNoOption (sym h.target) (address_plain plan.target h.in_range.target);
   conns = subst IsNoOption (sym h.conns)
-      (decimal_plain plan.conns (let few = h.in_range.connections.few_connections in omega arith));
+      (decimal_plain plan.conns (omega (arith, h.in_range.few_connections, few_connections way)));
   workers = plain_workers v.way v.workers way h.by_way;
 }
 

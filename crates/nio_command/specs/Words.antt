@@ -3,7 +3,6 @@ use Rattle.std.specs.Prelude.{◌≡◌, ◌⊎◌, ℕ, ◌≤◌, List, [], �
 use Rattle.std.specs.Fmt.{decimal}
 use Rattle.nio_relay.specs.Plan.{IsRelayable}
 use Rattle.nio_relay.specs.declared.plan.PacketPlan.{PacketPlan}
-use Rattle.nio_relay.specs.Plan.{IsServable}
 use Rattle.nio_relay.specs.declared.plan.ProxyPlan.{ProxyPlan}
 use Rattle.nio_command.specs.Options.{Text, AreOptions}
 use Rattle.nio_command.specs.Values.{IsAddress, PacketValues, ProxyValues, address_text, packet_options, proxy_options}
@@ -39,11 +38,20 @@ pub record IsLoadCommand (words : List Text) (rounds : ℕ) : Type 0 where
   pub few : rounds ≤ 100000
   pub says : words ≡ codes "load" ∷ decimal rounds ∷ []
 
--- both addresses are valid, and there are from 1 to 16,000 connections
-pub record IsInRange (plan : ProxyPlan) : Type 0 where
+-- after how many connections a proxy of this way ends at most
+abbrev pub most_connections : ProxyWay → ℕ
+most_connections Select = 4294967295
+most_connections (Group count) = 16000
+most_connections Future = 16000
+most_connections (Many count) = 4294967295
+
+-- both addresses are valid, there are from 1 connection to as many as the way can serve, and 16,000 at once
+pub record IsInRange (plan : ProxyPlan) (way : ProxyWay) : Type 0 where
   pub listen : IsAddress plan.listen
   pub target : IsAddress plan.target
-  pub connections : IsServable plan
+  pub some_connections : 1 ≤ plan.conns
+  pub few_connections : plan.conns ≤ most_connections way
+  pub at_once : plan.at_once ≡ 16000
 
 -- The value of `--workers` asks for so many workers, from 1 to the most that there may be; where it isn't given there
 -- are 4.
@@ -61,7 +69,7 @@ AsksForWay way workers (Many count) = (way ≡ codes "many") × AsksForWorkers 1
 
 -- the values of the options ask for this plan and this way
 pub record AsksFor (v : ProxyValues) (plan : ProxyPlan) (way : ProxyWay) : Type 0 where
-  pub in_range : IsInRange plan
+  pub in_range : IsInRange plan way
   pub by_way : AsksForWay v.way v.workers way
   pub listen : v.listen ≡ address_text plan.listen
   pub target : v.target ≡ address_text plan.target

@@ -3,7 +3,7 @@ ghost use Rattle.std.specs.Prelude.{◌≡◌};
 ghost use Rattle.nio_poller.specs.Polls.{told_of_channel};
 ghost use Rattle.nio_steps.specs.SelectCalls.{told_at};
 
-use nio_base::{ChanNo, Kind, Ops};
+use nio_base::{ChanId, ChanNo, Kind, Ops};
 use nio_board::{Board, Port, Refused};
 use nio_select::{Asked, Told};
 use std::sync::Wait;
@@ -21,7 +21,7 @@ pub(crate) fn watch<R: Wait>(
     rt: &R,
     chan: ChanNo,
 ) -> Result<Watched, Refused> {
-    let port = board.watch(rt, chan, Kind::Datagram, Ops::NONE)?;
+    let port = board.watch(rt, ChanId::first(chan), Kind::Datagram, Ops::NONE)?;
     Ok(Watched {
         port,
         interest: Ops::NONE,

@@ -3,6 +3,7 @@ pub mod Directions
 pub mod Handling
 pub mod Jobs
 pub mod Next
+pub mod Plans
 pub mod Reports
 pub mod Starters
 pub mod StreamsState

@@ -199,11 +199,18 @@ fn plans_fit_at_their_ends(rt: HostRuntime) {
         ip: [127, 0, 0, 1],
         port: 80,
     };
-    for (conns, fits) in [(0, false), (1, true), (16_000, true), (16_001, false)] {
+    for (conns, at_once, fits) in [
+        (0, 1, false),
+        (1, 0, false),
+        (1, 1, true),
+        (u32::MAX, 16_000, true),
+        (1, 16_001, false),
+    ] {
         let plan = ProxyPlan {
             listen: here,
             target: here,
             conns,
+            at_once,
         };
         assert_eq!(rt; plan.fits(), fits, "{plan:?}");
     }

@@ -4,7 +4,7 @@ ghost use Rattle.std.specs.Thread.{IsSync};
 ghost use Rattle.nio_link.specs.Nets.{view_of};
 ghost use Rattle.nio_jobs.specs.ByJobs.{IsNew, exchange_of};
 ghost use Rattle.nio_pool.specs.Queues.{IsPassOf};
-ghost use Rattle.nio_relay.specs.Plan.{IsServable};
+ghost use Rattle.nio_jobs.specs.Plans.{HasSlotForEach};
 ghost use Rattle.nio_serve.specs.Serving.{IsFresh, Serves};
 
 use crate::counts::HandledCounts;
@@ -26,7 +26,7 @@ use std::thread::Threads;
 
 // How many channels the group of this plan has: the listener's, and two for each connection.
 fn channels_of(plan: ProxyPlan) -> u32
-    requires { IsServable plan }
+    requires { HasSlotForEach plan }
     ensures { result ≡ 2 * plan.conns + 1 }
 {
     2 * plan.conns + 1
@@ -35,7 +35,7 @@ fn channels_of(plan: ProxyPlan) -> u32
 // How many operations of this plan's group are in flight at most: an accept, a read and a write for each stream, and
 // some more, since a handler starts what is due before it ends its own operation.
 fn flight_of(plan: ProxyPlan) -> u32
-    requires { IsServable plan }
+    requires { HasSlotForEach plan }
     ensures { result ≡ 4 * plan.conns + 66 }
 {
     4 * plan.conns + 66
@@ -56,7 +56,7 @@ impl SharedGroup {
         plan: ProxyPlan,
         workers: u32,
     ) -> Result<(SharedGroup, Option<QueuePass>, Vec<QueuePass>), AllocError>
-        requires plan { IsServable plan }
+        requires plan { HasSlotForEach plan }
         requires workers { (1 ≤ workers) × (workers ≤ 64) }
         ensures own { IfOk result (λ made. IsSomeAnd made.1 (IsPassOf made.0.queue)) }
         ensures passes { IfOk result (λ made. All (IsPassOf made.0.queue) made.2.items) }
@@ -137,7 +137,7 @@ fn open_way<'a, R: Wait>(
     own: QueuePass,
     plan: ProxyPlan,
 ) -> Result<ByJobs<Dispatcher<'a, R>>, AllocError>
-    requires plan { IsServable plan }
+    requires plan { HasSlotForEach plan }
     requires pass { IsPassOf shared.now.queue own }
     ensures new { IfOk result (λ way. IsNew (exchange_of way) (2 * plan.conns + 1) (4 * plan.conns + 66) way) }
     ensures queue { IfOk result (λ way. (exchange_of way).queue.now ≡ shared.now.queue) }
@@ -162,7 +162,7 @@ fn serve_by_jobs<R: Wait, N: Net>(
     own: QueuePass,
     plan: ProxyPlan,
 ) -> Result<Served, ServeError>
-    requires plan { IsServable plan }
+    requires plan { HasSlotForEach plan }
     requires pass { IsPassOf shared.now.queue own }
     requires fresh { IsFresh (view_of N.Net net.old) }
     ensures { Serves plan (view_of N.Net net.old) (view_of N.Net net.new) result }
@@ -190,7 +190,7 @@ fn dispatch<R: Wait, N: Net>(
     has_threads: bool,
     plan: ProxyPlan,
 ) -> Result<Served, ServeError>
-    requires plan { IsServable plan }
+    requires plan { HasSlotForEach plan }
     requires pass { IfSome own.old (IsPassOf shared.now.queue) }
     requires fresh { IsFresh (view_of N.Net net.old) }
     ensures { Serves plan (view_of N.Net net.old) (view_of N.Net net.new) result }
@@ -248,7 +248,7 @@ pub fn serve_group<R: Threads + Wait + Sync, N: Net, B: Bell + Sync, G: Gate + S
     plan: ProxyPlan,
     workers: u32,
 ) -> Result<Served, ServeError>
-    requires plan { IsServable plan }
+    requires plan { HasSlotForEach plan }
     requires workers { (1 ≤ workers) × (workers ≤ 64) }
     requires fresh { IsFresh (view_of N.Net net.old) }
     ensures { Serves plan (view_of N.Net net.old) (view_of N.Net net.new) result }
@@ -266,7 +266,7 @@ pub fn serve_group_counted<R: Threads + Wait + Sync, N: Net, B: Bell + Sync, G: 
     plan: ProxyPlan,
     workers: u32,
 ) -> CountedServe
-    requires plan { IsServable plan }
+    requires plan { HasSlotForEach plan }
     requires workers { (1 ≤ workers) × (workers ≤ 64) }
     requires fresh { IsFresh (view_of N.Net net.old) }
     ensures { Serves plan (view_of N.Net net.old) (view_of N.Net net.new) result.served }

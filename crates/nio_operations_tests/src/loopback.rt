@@ -54,6 +54,7 @@ fn relay<R: Threads + Wait + Sync + Net + Clock + Copy, G: Gate + Sync>(
             port: target,
         },
         conns: conns.clamp(1, CLIENTS as u32),
+        at_once: CLIENTS as u32,
     };
     let (net, bell) = MioNet::make(*rt, alloc)?;
     let mut jobs = JobNet::over(net);

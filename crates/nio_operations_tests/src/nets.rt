@@ -111,6 +111,7 @@ pub(crate) fn serves_counted<R: Threads + Wait + Sync, G: Gate + Sync>(
         listen: ANYWHERE,
         target: ANYWHERE,
         conns: conns.clamp(1, 16) as u32,
+        at_once: 16,
     };
     let mut jobs = JobNet::over(net);
     let counted = serve_group_counted(rt, alloc, &mut jobs, &NoBell, gate, plan, 2);

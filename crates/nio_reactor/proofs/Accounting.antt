@@ -1,5 +1,5 @@
 -- Where the links went: from what the lanes show of their lines, once these are settled.
-use Rattle.std.proofs.Common.{◌≡◌, ◌≢◌, ℕ, ◌+◌, ◌<◌, ◌≤◌, inl, inr, ◌⊎◌, Bool, false, IsTrue, IsOk, Ok, Err, Result}
+use Rattle.std.proofs.Common.{◌≡◌, ◌≢◌, ℕ, ◌+◌, ◌*◌, ◌<◌, ◌≤◌, inl, inr, ◌⊎◌, Bool, false, IsTrue, IsOk, Ok, Err, Result}
 use Rattle.std.proofs.Common.{Option, Some, None, All, refl, sym, ap, subst, ◌∙◌, List, [], ◌∷◌, ◌++◌, map, length}
 use Rattle.std.proofs.Common.{slice_get, slice_index_or, arith, length-append, OnOk}
 use Rattle.std.proofs.lemmas.Bool.{false_from_ne_true}
@@ -12,15 +12,15 @@ use Rattle.nio_line.specs.Lines.{End as LineEnd, Exit as LineExit}
 use Rattle.nio_relay.specs.declared.plan.ProxyPlan.{ProxyPlan}
 use Rattle.nio_relay.specs.declared.plan.Served.{Served}
 use Rattle.nio_link.specs.Nets.{Members}
-use Rattle.nio_serve.specs.Slots.{clients_below}
 use Rattle.nio_serve.specs.declared.serving.ServeError.{ServeError}
 use Rattle.nio_serve.specs.declared.serving.ServeError.TheVariants as serve
 use Rattle.nio_reactor.proofs.Clients.{length_below as clients_length}
 use Rattle.nio_reactor.proofs.Concluding.{at_worker, put_in_at}
 use Rattle.nio_reactor.proofs.Handing.{clients_at, handed_all, length_at, none_by, put_is}
 use Rattle.nio_reactor.proofs.Lists.{element}
+use Rattle.nio_reactor.proofs.Received.{empty}
 use Rattle.nio_reactor.proofs.Settling.{Accounts, accounts, share_grows}
-use Rattle.nio_reactor.specs.Accepting.{HasSent}
+use Rattle.nio_reactor.specs.Accepting.{HasSent, clients_below}
 use Rattle.nio_reactor.specs.Dealing.{dealt, number_of, share}
 use Rattle.nio_reactor.specs.Handing.{handed_by, handovers, put_below}
 use Rattle.nio_reactor.specs.Handing.{AccountsForLinks, AreHanded, KeepsLinks}
@@ -48,14 +48,15 @@ never_ends (h ∷ put) is = absurd (cc)
 all_put : (w v n conns k : ℕ) → n ≤ conns → k ≤ share w v n → k ≡ share w v conns → k ≡ share w v n
 all_put w v n conns k more few all = omega (arith, all, few, share_grows w v n conns more)
 
--- ---- all that the lanes show, of w workers and so many connections, n of which were sent to them
+-- ---- all that the lanes show, of w workers, so many connections and slots; n connections were sent to them
 
 pub record Shown {X L : Type 0} (line : X → LineExit (Message L)) (worker : X → ℕ) (put : X → List Handover)
-    (hand : X → List (Option ℕ)) (early : X → Bool) (left : X → ℕ) (w conns n : ℕ) (lanes : List X)
+    (hand : X → List (Option ℕ)) (early : X → Bool) (left : X → ℕ) (w conns slots n : ℕ) (lanes : List X)
     (entries : List (LineEnd (Message L))) : Type 0 where
   pub numbers : (x : X) → map number_of (line x).carried ≡ map put_number (put x) ++ hand x
   pub own : (x : X) → All (λ h. h.worker ≡ worker x) (put x)
   pub count : (x : X) → left x + length (put x) ≡ share w (worker x) conns
+  pub within : (x : X) → All (λ h. h.client.number.0 < 2 * share w (worker x) slots) (put x)
   pub in_time : (x : X) → IsTrue (early x) → (hand x ≡ None ∷ []) × (0 < left x)
   pub lanes_are : length lanes ≡ w
   pub entries_are : length entries ≡ w
@@ -70,6 +71,7 @@ early_hand (heard.Link handed) is = absurd (cc)
 early_hand (heard.Refused connection) is = absurd (cc)
 early_hand heard.End is = absurd (cc)
 early_hand heard.Early is = refl
+early_hand (heard.Over gone) is = absurd (cc)
 
 -- what was sent on each line, where nothing was sent before
 pub sent_all : {L : Type 0} (accepted_before accepted_now : List ChanId) (before now : List (LineEnd (Message L)))
@@ -96,15 +98,32 @@ same_count before now n o first second =
     omega (arith, long, clients_length n, clients_length o)
 
 module _ {X L : Type 0} (line : X → LineExit (Message L)) (worker : X → ℕ) (put : X → List Handover)
-    (hand : X → List (Option ℕ)) (early : X → Bool) (left : X → ℕ) (w conns n : ℕ) (lanes : List X)
+    (hand : X → List (Option ℕ)) (early : X → Bool) (left : X → ℕ) (w conns slots n : ℕ) (lanes : List X)
     (entries : List (LineEnd (Message L)))
-    (shown : Shown line worker put hand early left w conns n lanes entries) where
+    (shown : Shown line worker put hand early left w conns slots n lanes entries) where
   accounts_at : (v : ℕ) (x : X) → slice_get lanes v ≡ Some x → Accounts w v n (put x) (hand x)
   accounts_at v x at =
       let less : v < w = subst (λ k. v < k) shown.lanes_are (slice_get_within lanes v x at) in
       let e = element entries v (subst (λ k. v < k) (sym shown.entries_are) less) in
       accounts w v n less (line x).carried e.0.carried (put x) (hand x) (shown.numbers x) (shown.sent v e.0 e.1)
       (shown.settled v x e.0 at e.1) (worker x) (shown.own x) (shown.its v x at)
+
+  pub own_at : (v : ℕ) (x : X) → slice_get lanes v ≡ Some x → All (λ h. h.worker ≡ v) (put x)
+  own_at v x at = (accounts_at v x at).own
+
+  -- under numbers of its slots
+  pub within_at : (v : ℕ) (x : X) → slice_get lanes v ≡ Some x
+      → All (λ h. h.client.number.0 < 2 * share w v slots) (put x)
+  within_at v x at = elim (shown.its v x at) [
+    | inl none ↦
+        λ i d few. absurd (omega (
+          arith,
+          few,
+          ap length
+              (empty (put x) (hand x) (ap (map number_of) (sym none) ∙ shown.numbers x)),
+        ))
+    | inr same ↦ subst (λ k. All (λ h. h.client.number.0 < 2 * share w k slots) (put x)) same (shown.within x)
+  ]
 
   -- where all connections were sent, no line ended early
   early_never : n ≡ conns → (v : ℕ) (x : X) → slice_get lanes v ≡ Some x → IsTrue (early x)
@@ -189,20 +208,23 @@ module _ {X L : Type 0} (line : X → LineExit (Message L)) (worker : X → ℕ)
           → AccountsForLinks m accepted_before accepted_now (map net before) (map net lanes) old new answer
       accounts_for accepted_before accepted_now old new accepted new_is done answer is =
           let nets : length (map net before) ≡ w = length-map before net ∙ before_is in record {
-            count = n;
+            clients = clients_below n;
             accepted = accepted;
             put = clients_at put lanes;
             handed = new_is ∙ ap (λ l. old ++ l) (handed_here (length (map net before)) nets);
             few = λ v less.
                 let b = element lanes v (omega (arith, less, nets, shown.lanes_are)) in
-                subst (λ k. length (clients_at put lanes v) ≤ share k v n) (sym nets)
-                (subst (λ k. k ≤ share w v n) (sym (length_at put lanes v b.0 b.1)) (accounts_at v b.0 b.1).few);
+                subst (λ k. length (clients_at put lanes v) ≤ share k v (length (clients_below n))) (sym nets)
+                (subst (λ m. length (clients_at put lanes v) ≤ share w v m) (sym (clients_length n))
+                (subst (λ k. k ≤ share w v n) (sym (length_at put lanes v b.0 b.1)) (accounts_at v b.0 b.1).few));
             kept = λ v x y at_x at_y.
                 let has = at_worker m plan net put early outcome before lanes same_length worked v x y at_x at_y in
-                subst (λ k. KeepsLinks answer (length (clients_at put lanes v) ≡ share k v n)
+                subst (λ k. KeepsLinks answer (length (clients_at put lanes v) ≡ share k v (length (clients_below n)))
                 (Rose (m.poll_faults x) (m.poll_faults y))) (sym nets)
+                (subst (λ o. KeepsLinks answer (length (clients_at put lanes v) ≡ share w v o)
+                (Rose (m.poll_faults x) (m.poll_faults y))) (sym (clients_length n))
                 (subst (λ k. KeepsLinks answer (k ≡ share w v n) (Rose (m.poll_faults x) (m.poll_faults y)))
-                (sym (length_at put lanes v has.0 has.1)) (keeps done answer is v has.0 has.1 plan.target x y _ has.2));
+                (sym (length_at put lanes v has.0 has.1)) (keeps done answer is v has.0 has.1 plan.target x y _ has.2)));
           }
 
       -- ---- what was handed over
@@ -238,7 +260,7 @@ module _ {X L : Type 0} (line : X → LineExit (Message L)) (worker : X → ℕ)
 pub none_accounted : {N : Type 0} (m : Members N) (accepted : List ChanId) (before now : List N) (old : List Handover)
     → AccountsForLinks m accepted accepted before now old old (Err many.Memory)
 none_accounted m accepted before now old = record {
-  count = 0;
+  clients = [];
   accepted = sym (append-nil accepted);
   put = λ v. [];
   handed = sym (ap (λ l. old ++ l) (none_by (length before) (length before)) ∙ append-nil old);

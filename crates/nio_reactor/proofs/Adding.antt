@@ -1,15 +1,16 @@
 -- What the workers came to, one after the other.
 use Rattle.std.proofs.Common.{◌≡◌, ◌≢◌, ℕ, ◌+◌, ◌<◌, inl, inr, Result, Ok, Err, Some, option_map, IsOk, List, length}
-use Rattle.std.proofs.Common.{slice_index_or, All, IfOk, ◌≤◌}
+use Rattle.std.proofs.Common.{slice_index_or, IfOk, ◌≤◌}
 use Rattle.std.proofs.Common.{slice_get, refl, sym, ap, subst, ◌∙◌, arith, add-one}
 use Rattle.std.proofs.lemmas.Bool.{cases_order}
 use Rattle.std.proofs.lemmas.Option.{get_or_from_slice_get, same_Some, slice_get_within}
 use Rattle.nio_relay.specs.declared.plan.Served.{Served}
 use Rattle.nio_serve.specs.declared.serving.ServeError.{ServeError}
-use Rattle.nio_reactor.proofs.Lists.{at_each}
+use Rattle.nio_reactor.proofs.Shares.{shares_few}
+use Rattle.nio_reactor.specs.Dealing.{share}
 use Rattle.nio_reactor.specs.Many.{sum_below}
 use Rattle.nio_serve.specs.declared.serving.ServeError.TheVariants as serve
-use Rattle.nio_reactor.specs.Working.{AddsSoFar, AddsAll, AddsUp, Concludes, NoneHasEnded, faults_of}
+use Rattle.nio_reactor.specs.Working.{AddsSoFar, AddsAll, AddsUp, Concludes, CountFew, NoneHasEnded, faults_of}
 use Rattle.nio_reactor.specs.declared.many.ManyError.{ManyError}
 use Rattle.nio_reactor.specs.declared.many.ManyError.TheVariants as many
 
@@ -45,13 +46,23 @@ adds_end {X} outcome lanes i conns served so_far end is = record {
   all = λ v y at. so_far.all v y (subst (λ n. v < n) end (slice_get_within lanes v y at)) at;
 }
 
--- a worker that has served its connections counted few faults
-pub few_of : {X : Type 0} (outcome : X → Result Served ServeError) (lanes : List X) (i : ℕ) (x : X) (served : Served)
-    → All (λ y. IfOk (outcome y) (λ s. s.faults ≤ 16000)) lanes → i < length lanes → x ≡ slice_index_or lanes i x
-    → outcome x ≡ Ok served → served.faults ≤ 16000
-few_of outcome lanes i x served all less is ok =
-    subst (λ (o : Result Served ServeError). IfOk o (λ s. s.faults ≤ 16000)) ok
-    (at_each (λ y. IfOk (outcome y) (λ s. s.faults ≤ 16000)) lanes i x all less is)
+-- the faults of the first workers, and of the next one, are no more than they have connections
+abbrev pub AreFew : {X : Type 0} → ℕ → List X → ℕ → ℕ → Type 0
+AreFew conns lanes i faults = faults ≤ sum_below (λ v. share (length lanes) v conns) i
+
+pub few_more : {X : Type 0} (outcome : X → Result Served ServeError) (conns : ℕ) (lanes : List X) (i faults : ℕ) (x : X)
+    (served : Served) → CountFew outcome conns lanes → slice_get lanes i ≡ Some x → outcome x ≡ Ok served
+    → AreFew conns lanes i faults → AreFew conns lanes (i + 1) (faults + served.faults)
+few_more outcome conns lanes i faults x served few at ok so_far =
+    let its : served.faults ≤ share (length lanes) i conns
+    = subst (λ (o : Result Served ServeError). IfOk o (λ s. s.faults ≤ share (length lanes) i conns)) ok (few i x at) in
+    let next : sum_below (λ v. share (length lanes) v conns) (i + 1)
+    ≡ sum_below (λ v. share (length lanes) v conns) i + share (length lanes) i conns
+    = ap (sum_below (λ v. share (length lanes) v conns)) (add-one i) in
+    omega (arith, its, next, so_far)
+
+pub few_in_all : {X : Type 0} (conns : ℕ) (lanes : List X) (i faults : ℕ) → AreFew conns lanes i faults → faults ≤ conns
+few_in_all conns lanes i faults few = omega (arith, few, shares_few (length lanes) conns i)
 
 -- ---- why the others ended
 

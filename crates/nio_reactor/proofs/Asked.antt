@@ -16,12 +16,10 @@ use Rattle.nio_link.specs.declared.place.Role.TheVariants as role
 use Rattle.nio_link.specs.declared.place.Standing.TheVariants as standing
 use Rattle.nio_relay.specs.declared.plan.ProxyPlan.{ProxyPlan}
 use Rattle.nio_link.proofs.Channels.{channel_is_or_not}
-use Rattle.nio_serve.proofs.Slotting.{client_else, client_listener}
 use Rattle.nio_serve.proofs.Working.{rose_from}
 use Rattle.nio_serve.specs.Serving.{listener, IsAtMost, IsFresh}
-use Rattle.nio_serve.specs.Slots.{client_at, clients_below}
-use Rattle.nio_reactor.proofs.Clients.{all_below}
-use Rattle.nio_reactor.specs.Accepting.{Accepts, HasAccepted, IsAccepting}
+use Rattle.nio_reactor.proofs.Clients.{all_below, client_else, client_listener}
+use Rattle.nio_reactor.specs.Accepting.{Accepts, HasAccepted, IsAccepting, client_at, clients_below}
 use Rattle.nio_reactor.specs.declared.many.ManyError.{ManyError}
 use Rattle.nio_reactor.specs.declared.many.ManyError.TheVariants.{NetFault}
 use Rattle.nio_reactor.specs.Many.{LeavesAcceptor}
@@ -119,15 +117,10 @@ module _ {N : Type 0} (n : Members N) where
   -- the channel of the next link can be asked
   pub next_free : (k : ℕ) (x : N) (c : ChanId) → IsAccepting n k x → c ≡ client_at k → IsFree (n.place x) c
   next_free k x c was is = subst (IsFree (n.place x)) (sym is) (record {
-    later = λ s more. unasked s;
-    vacant = λ s. subst (λ (p : Place). IsVacant p.standing) (sym (unasked s)) tt;
+    later = λ s more. was.rest (client_at s) (client_listener s)
+        (λ j few. client_else s j (λ same. absurd (omega (arith, same, few, more))));
+    vacant = λ s. was.vacant (client_at s) (client_listener s);
   })
-    where
-      unasked : (s : ℕ) → n.place x (channel (client_at k).number s) ≡ never_asked
-      unasked s = was.rest (channel (client_at k).number s)
-          (λ same. let at : 2 * k + 1 ≡ 0 = ap (λ (d : ChanId). d.number.0) same in absurd (omega (arith, at)))
-          (λ j few same.
-          let at : 2 * k + 1 ≡ 2 * j + 1 = ap (λ (d : ChanId). d.number.0) same in absurd (omega (arith, at, few)))
 
   -- at the end
   pub left : (plan : ProxyPlan) (k : ℕ) (x y z : N) → IsAccepting n k y → ((c : ChanId) → n.link y c ≡ n.link x c)

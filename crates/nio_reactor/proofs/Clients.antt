@@ -1,13 +1,21 @@
 -- Clients in lists: the first ones, and those that are counted.
-use Rattle.std.proofs.Common.{◌≡◌, ℕ, zero, suc, ◌+◌, ◌<◌, ◌≤◌, Bool, true, false, IsFalse, if◌then◌else◌, All, refl, ap, arith}
+use Rattle.std.proofs.Common.{◌≡◌, ◌≢◌, ℕ, zero, suc, ◌+◌, ◌<◌, ◌≤◌, Bool, true, false, IsFalse, if◌then◌else◌, All, refl, ap, arith}
 use Rattle.std.proofs.Common.{List, [], ◌∷◌, length, length-append}
 use Rattle.std.specs.Prelude.{count_by}
 use Rattle.std.proofs.lemmas.List.Elements.{All-head, All-nil, All-push, All-tail}
 use Rattle.std.proofs.lemmas.List.Sums.{sum_by-append}
 use Rattle.nio_base.specs.declared.numbers.ChanId.{ChanId}
-use Rattle.nio_serve.specs.Slots.{client_at, clients_below}
+use Rattle.nio_serve.specs.Serving.{listener}
+use Rattle.nio_reactor.specs.Accepting.{client_at, clients_below}
 
 -- ---- the clients of the first connections
+
+pub client_listener : (k : ℕ) → client_at k ≢ listener
+client_listener k is =
+    let at : 1 ≡ 0 = ap (λ (c : ChanId). c.number.0) is in absurd (omega (arith, at))
+
+pub client_else : (j k : ℕ) → j ≢ k → client_at j ≢ client_at k
+client_else j k other is = other (ap (λ (c : ChanId). c.serial) is)
 
 -- what holds of each connection below n holds of all clients
 pub all_below : (P : ChanId → Type 0) (n : ℕ) → ((k : ℕ) → k < n → P (client_at k)) → All P (clients_below n)

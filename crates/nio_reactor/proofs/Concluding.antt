@@ -1,7 +1,8 @@
 -- What the proxy answers, from what its acceptor and its workers came to.
-use Rattle.std.proofs.Common.{◌≡◌, ℕ, zero, suc, ◌<◌, ◌≤◌, ◌%◌, ◌==◌, ◌⊎◌, inl, inr, Bool, false}
+use Rattle.std.proofs.Common.{◌≡◌, ◌≢◌, ℕ, zero, suc, ◌<◌, ◌≤◌, ◌⊎◌, inl, inr, Bool, false}
 use Rattle.std.proofs.Common.{All, IfOk, IsTrue, IsOk, OnOk, Ok, Err, Result, Some, option_map, List, [], ◌∷◌, map, length}
 use Rattle.std.proofs.Common.{slice_get, slice_index_or, refl, sym, ap, subst, ◌∙◌, arith}
+use Rattle.std.specs.Prelude.{AllPairs}
 use Rattle.std.proofs.lemmas.List.{append-nil, length-map}
 use Rattle.std.proofs.lemmas.List.Elements.{All-get_or}
 use Rattle.std.proofs.lemmas.Option.{get_or_from_slice_get, same_Some, slice_get_within, slice_get-get_or}
@@ -14,9 +15,7 @@ use Rattle.nio_link.specs.Places.{IsVacant}
 use Rattle.nio_link.specs.declared.place.Place.{Place}
 use Rattle.nio_relay.specs.declared.plan.ProxyPlan.{ProxyPlan}
 use Rattle.nio_relay.specs.declared.plan.Served.{Served}
-use Rattle.nio_serve.proofs.Counts.{count_few}
-use Rattle.nio_serve.specs.Serving.{listener, IsFresh, NoneRose, WasClean}
-use Rattle.nio_serve.specs.Slots.{clients_below}
+use Rattle.nio_serve.specs.Serving.{listener, run_channels, IsFresh, NoneRose, WasClean}
 use Rattle.nio_serve.specs.declared.serving.ServeError.{ServeError}
 use Rattle.nio_serve.specs.declared.serving.ServeError.TheVariants.{NetFault as Failed}
 use Rattle.nio_reactor.proofs.Clients.{few_counted, length_below}
@@ -24,12 +23,13 @@ use Rattle.nio_reactor.proofs.Asked.{accepting_first, clients_differ, left}
 use Rattle.nio_reactor.proofs.Handing.{clients_at}
 use Rattle.nio_reactor.proofs.Lists.{element}
 use Rattle.nio_reactor.proofs.Worked.{clients_apart, fresh_part}
-use Rattle.nio_reactor.specs.Accepting.{HasAccepted}
+use Rattle.nio_reactor.specs.Accepting.{HasAccepted, clients_below}
 use Rattle.nio_reactor.specs.Dealing.{share}
 use Rattle.nio_reactor.specs.Handing.{ArePutIn, put_at}
 use Rattle.nio_reactor.specs.Many.{AnswersMany, APollRose, AreAllClean, HasServedAll, HasServedPart, LeavesAcceptor}
 use Rattle.nio_reactor.specs.Many.{NoneRoseOfAll, RelaysPart, ServesAllCleanOr, ServesMany, sum_below}
-use Rattle.nio_reactor.specs.Working.{HasWorked, HaveWorked, HasEnded, AddsAll, Concludes, clients_of, faults_of}
+use Rattle.nio_reactor.specs.Working.{HasWorked, HaveWorked, HasEnded, AddsAll, Concludes, CountFew, clients_of}
+use Rattle.nio_reactor.specs.Working.{faults_of}
 use Rattle.nio_reactor.specs.declared.handover.Handover.{Handover}
 use Rattle.nio_reactor.specs.declared.many.ManyError.{ManyError}
 use Rattle.nio_reactor.specs.declared.many.ManyError.TheVariants.{NetFault, Memory}
@@ -116,6 +116,11 @@ module _ {X N : Type 0} (n : Members N) (plan : ProxyPlan) (net : X → N) (put 
   put_in_at v y at =
       let relays = relays_at v y at in
       record { roles = relays.leaves.put_in; apart = clients_apart (clients_at put now v) relays.apart }
+
+  -- the channels of its run are all different
+  pub apart_at : (v : ℕ) (b : X) → slice_get now v ≡ Some b
+      → AllPairs (λ c d. c ≢ d) (run_channels (clients_of (put b)))
+  apart_at v b at = (worker_at v b at).2.relays.apart
 
   part_of : (k : ℕ) (x y : N) (cs : List Handover) (e : Bool) (o : Result Served ServeError) → IsOk o
       → HasWorked n plan.target k x y cs e o
@@ -240,28 +245,23 @@ serves_of n plan net put early outcome before now first last first_is last_is co
     (serves_many n plan net put early outcome before now count worked done on_time x y has answer is))
 
 -- no worker counts more faults than it has connections
-few_served : {N : Type 0} (n : Members N) (target : Addr) (w v conns : ℕ) (x y : N) (put : List Handover) (early : Bool)
-    (outcome : Result Served ServeError) → conns ≤ 16000
-    → HasWorked n target (share w v conns) x y put early outcome → IfOk outcome (λ served. served.faults ≤ 16000)
-few_served n target w v conns x y put early (Ok served) few has =
-    omega (
-      arith,
-      has.serves.faults,
-      few_counted has.serves.counted (clients_of put),
-      has.serves.all,
-      count_few (λ k. (k % w) == v) conns,
-      few,
-    )
-few_served n target w v conns x y put early (Err error) few has = tt
+few_served : {N : Type 0} (n : Members N) (target : Addr) (conns : ℕ) (x y : N) (put : List Handover) (early : Bool)
+    (outcome : Result Served ServeError) → HasWorked n target conns x y put early outcome
+    → IfOk outcome (λ served. served.faults ≤ conns)
+few_served n target conns x y put early (Ok served) has =
+    omega (arith, has.serves.faults, few_counted has.serves.counted (clients_of put), has.serves.all)
+few_served n target conns x y put early (Err error) has = tt
 
 pub few_faults : {X N : Type 0} (n : Members N) (plan : ProxyPlan) (net : X → N) (put : X → List Handover)
     (early : X → Bool) (outcome : X → Result Served ServeError) (before now : List X) → length now ≡ length before
-    → HaveWorked n plan net put early outcome before now → plan.conns ≤ 16000
-    → All (λ x. IfOk (outcome x) (λ served. served.faults ≤ 16000)) now
-few_faults n plan net put early outcome before now count worked few k x less =
-    few_served n plan.target (length before) k plan.conns _ _ (put (slice_index_or now k x))
-    (early (slice_index_or now k x)) (outcome (slice_index_or now k x)) few
-    (worked k x (subst (λ m. k < m) count less))
+    → HaveWorked n plan net put early outcome before now → CountFew outcome plan.conns now
+few_faults n plan net put early outcome before now count worked v x at =
+    subst (λ w. IfOk (outcome x) (λ served. served.faults ≤ share w v plan.conns)) (sym count)
+    (subst (λ b. IfOk (outcome b) (λ served. served.faults ≤ share (length before) v plan.conns))
+    (get_or_from_slice_get now v x x at)
+    (few_served n plan.target (share (length before) v plan.conns) _ _ (put (slice_index_or now v x))
+    (early (slice_index_or now v x)) (outcome (slice_index_or now v x))
+    (worked v x (subst (λ m. v < m) count (slice_get_within now v x at)))))
 
 -- ---- where nothing was done
 

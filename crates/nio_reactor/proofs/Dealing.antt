@@ -8,7 +8,7 @@ use Rattle.std.proofs.lemmas.Option.{get_or_from_slice_get, slice_get-get_or, sl
 use Rattle.nio_line.specs.Lines.{End as LineEnd}
 use Rattle.nio_reactor.proofs.Lists.{map_set}
 use Rattle.nio_reactor.specs.Accepting.{Deals}
-use Rattle.nio_reactor.specs.Dealing.{dealt, number_of, share}
+use Rattle.nio_reactor.specs.Dealing.{dealt, number_of}
 use Rattle.nio_reactor.specs.declared.message.Message.{Message}
 
 pub dealt_mine : (w v k : ℕ) → k % w ≡ v → dealt w v (k + 1) ≡ dealt w v k ++ Some k ∷ []
@@ -91,18 +91,3 @@ pub deals_at : {L : Type 0} (lines : List (LineEnd (Message L))) (k n : ℕ) (d 
 deals_at lines k n d new message some new_is number same =
     subst (λ m. Deals m (m + 1) lines (slice_set lines (k % length lines) new)) same
     (deals_one lines k d new message some new_is (number ∙ ap Some (sym same)))
-
--- ---- how many they are
-
-add-zero : (n : ℕ) → n + 0 ≡ n
-add-zero n = omega arith
-
-pub share_mine : (w v k : ℕ) → k % w ≡ v → share w v (k + 1) ≡ share w v k + 1
-share_mine w v k mine =
-    ap (share w v) (add-one k) ∙ ap (λ t. share w v k + (if t then 1 else 0)) (eq-eqb (k % w) v mine)
-
-pub share_others : (w v k : ℕ) → k % w ≢ v → share w v (k + 1) ≡ share w v k
-share_others w v k others =
-    ap (share w v) (add-one k)
-    ∙ ap (λ t. share w v k + (if t then 1 else 0)) (ne_eqb (k % w) v others)
-    ∙ add-zero (share w v k)

@@ -1,8 +1,8 @@
 -- Which connections' links each worker puts in.
 use Rattle.std.proofs.Common.{◌≡◌, ℕ, zero, suc, ◌+◌, ◌*◌, ◌<◌, ◌≤◌, Err, Some, All}
-use Rattle.std.proofs.Common.{List, [], ◌∷◌, ◌++◌, map, length, slice_get, slice_index_or, refl, sym, ap, ◌∙◌}
+use Rattle.std.proofs.Common.{List, [], ◌∷◌, ◌++◌, map, length, slice_get, slice_index_or, refl, sym, ap, subst, ◌∙◌}
 use Rattle.std.proofs.Common.{arith, add-one, append_assoc, length-append}
-use Rattle.std.proofs.lemmas.List.{append-nil, length-map, map-append}
+use Rattle.std.proofs.lemmas.List.{append-nil, get_or-map, length-map, map-append}
 use Rattle.std.proofs.lemmas.List.Elements.{All-head, All-nil, All-tail}
 use Rattle.std.proofs.lemmas.Option.{slice_get-get_or}
 use Rattle.nio_base.specs.declared.numbers.ChanId.{ChanId}
@@ -57,6 +57,13 @@ module _ (w v : ℕ) where
 -- under which channels the worker at this place has put its links in
 abbrev pub clients_at : {X : Type 0} → (X → List Handover) → List X → ℕ → List ChanId
 clients_at put lanes v = clients_of (put_at put (slice_get lanes v))
+
+-- what holds of the client of each holds of each client
+pub all_clients : (P : ChanId → Type 0) (put : List Handover) → All (λ h. P h.client) put → All P (clients_of put)
+all_clients P put all i d few =
+    let at : i < length put = subst (λ n. i < n) (length-map put (λ (h : Handover). h.client)) few in
+    let h : Handover = record { connection = 0; worker = 0; client = d } in
+    subst P (sym (get_or-map (λ (x : Handover). x.client) put i h d at)) (all i h at)
 
 pub length_at : {X : Type 0} (put : X → List Handover) (lanes : List X) (v : ℕ) (x : X) → slice_get lanes v ≡ Some x
     → length (clients_at put lanes v) ≡ length (put x)

@@ -15,4 +15,5 @@ pub mod Received
 pub mod Seating
 pub mod Seen
 pub mod Settling
+pub mod Shares
 pub mod Worked

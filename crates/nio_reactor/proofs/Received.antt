@@ -61,7 +61,7 @@ pub opens : {M : Type 0} (worker : ℕ) (d : Door) (carried : List M) → door_p
     → (IsFalse (is_door_of worker d) → length carried ≡ 0) → length carried ≡ 0
 opens worker d carried is at_door = nothing_came worker d carried (unasked_is d is) at_door
 
-empty : (put : List Handover) (hand : List (Option ℕ)) → [] ≡ map put_number put ++ hand → put ≡ []
+pub empty : (put : List Handover) (hand : List (Option ℕ)) → [] ≡ map put_number put ++ hand → put ≡ []
 empty [] hand is = refl
 empty (h ∷ put) hand is = absurd (cc)
 
@@ -116,6 +116,13 @@ all_served : (plan : ProxyPlan) (clients : List ChanId) (old new : NetView) (res
     → Answers plan clients old new result → OnOk result (length clients ≡ plan.conns)
 all_served plan clients old new (Ok served) has = has.all
 all_served plan clients old new (Err error) has = tt
+
+-- at Ok as many were accepted as the plan has
+pub served_length : (plan : ProxyPlan) (old new : NetView) (result : Result Served ServeError) → old.accepted ≡ []
+    → Serves plan old new result → OnOk result (length new.accepted ≡ plan.conns)
+served_length plan old new result none serves =
+    subst (λ l. OnOk result (length l ≡ plan.conns)) (sym (serves.accepted ∙ ap (λ l. l ++ serves.clients) none))
+    (all_served plan serves.clients old new result serves.answers)
 
 pub received_all : {M : Type 0} (plan : ProxyPlan) (old new : NetView) (before put : List Handover) (line : LineExit M)
     (worker : ℕ) (d : Door) (result : Result Served ServeError) → before ≡ []

@@ -1,6 +1,6 @@
 -- The callers of the shared table until they take their seats.
 use Rattle.std.proofs.Common.{◌≡◌, ◌≢◌, ℕ, ◌+◌, ◌<◌, ◌≤◌, ⊎_elim, Bool, false, Option, Some, Result, Ok, Err, OnOk}
-use Rattle.std.proofs.Common.{is_err, zero, suc, ◌*◌, List, [], ◌∷◌, ◌++◌, length, slice_index_or, refl, sym, ap, subst}
+use Rattle.std.proofs.Common.{is_err, List, [], ◌∷◌, ◌++◌, length, slice_index_or, refl, sym, ap, subst}
 use Rattle.std.proofs.Common.{◌∙◌, arith, eqb-true, eq-eqb, length-append}
 use Rattle.std.proofs.Math.Seq.{get_or-append_seam}
 use Rattle.std.proofs.lemmas.Bool.{cases_eq, cases_lt, ne_eqb}
@@ -26,6 +26,7 @@ use Rattle.nio_reactor.specs.Seats.{AreNewcomers, HaveDrawn, HaveSeats, IsHandin
 use Rattle.nio_reactor.specs.Seats.{channels_for}
 use Rattle.nio_board.proofs.Calls.{DidCall, IsFree, did_unpinned, only_drawn, unregistered_after}
 use Rattle.nio_serve.proofs.Watching.{on_ok_any}
+use Rattle.nio_serve.specs.Serving.{run_channels}
 use Rattle.nio_board.specs.Board.{BoardView, IsIdle, IsSameSeat}
 use Rattle.nio_board.specs.Called.{HasCalled, IsUnregistered}
 use Rattle.nio_board.specs.declared.deal.Deal.{Deal}
@@ -225,8 +226,8 @@ seated_idle w p q given n s is hands made =
 
 pub seat_is : (w : Words) (number : ℕ) (deal : Deal) (s : SelNo) (board : BoardView) (acts : List Act)
     → board.words ≡ w → board.caller ≡ caller number → board.selector ≡ s → board.deal ≡ Some deal
-    → board.registered ≡ 0 → Completes (find_selector_plan (limits_of w) number) acts (Some s)
-    → IsSeat w number deal 0 board
+    → board.registered ≡ [] → Completes (find_selector_plan (limits_of w) number) acts (Some s)
+    → IsSeat w number deal board
 seat_is w number deal s board acts words_are caller_is selector_is deal_is none run = record {
   words = words_are;
   caller_is = caller_is;
@@ -237,8 +238,9 @@ seat_is w number deal s board acts words_are caller_is selector_is deal_is none 
 
 -- ---- a seat is left
 
-pub left_seat : {T E : Type 0} (w : Words) (number : ℕ) (deal : Deal) (registered : ℕ) (before after : BoardView)
-    (pass : Pass) (result : Result T E) → IsSeat w number deal 0 before → IsSameSeat before after
+pub left_seat : {T E : Type 0} (w : Words) (number : ℕ) (deal : Deal) (registered : List ChanId)
+    (before after : BoardView) (pass : Pass) (result : Result T E) → IsSeat w number deal before
+    → IsSameSeat before after
     → OnOk result (after.registered ≡ registered) → IsReady w pass after.caller
     → HasCalled (limits_of w) (acts_seen pass after.caller) after.deal after.selector after.registered
     → LeavesSeat w number deal registered pass result
@@ -257,31 +259,39 @@ left_seat w number deal registered before after pass result seat same all ready 
           called)))) all;
     }
 
-channels_are : (conns : ℕ) → (conns ≡ 0 → ⊥) → channels_for conns ≡ 2 * conns + 1
-channels_are zero some = absurd (some refl)
-channels_are (suc n) some = refl
+channels_are : (clients : List ChanId) → (length clients ≡ 0 → ⊥) → run_channels clients ≡ channels_for clients
+channels_are [] some = absurd (some refl)
+channels_are (client ∷ rest) some = refl
 
--- of a worker that has served so many connections
-pub left_served : {T E : Type 0} (w : Words) (number : ℕ) (deal : Deal) (conns : ℕ) (before after : BoardView)
-    (pass : Pass) (result : Result T E) → (conns ≡ 0 → ⊥) → IsSeat w number deal 0 before → IsSameSeat before after
-    → OnOk result (after.registered ≡ 2 * conns + 1) → IsReady w pass after.caller
+-- of a worker that has put in these, where it has any connections: at Ok all of them
+pub left_served : {T E : Type 0} (w : Words) (number : ℕ) (deal : Deal) (clients : List ChanId) (conns : ℕ)
+    (before after : BoardView) (pass : Pass) (result : Result T E) → (conns ≡ 0 → ⊥) → IsSeat w number deal before
+    → IsSameSeat before after → OnOk result (length clients ≡ conns)
+    → OnOk result (after.registered ≡ run_channels clients) → IsReady w pass after.caller
     → HasCalled (limits_of w) (acts_seen pass after.caller) after.deal after.selector after.registered
-    → LeavesSeat w number deal (channels_for conns) pass result
-left_served w number deal conns before after pass result some seat same all ready called =
-    left_seat w number deal (channels_for conns) before after pass result seat same
-    (on_ok_weaker result (λ all_are. all_are ∙ sym (channels_are conns some)) all) ready called
+    → LeavesSeat w number deal (channels_for clients) pass result
+left_served w number deal clients conns before after pass result some seat same long all ready called =
+    left_seat w number deal (channels_for clients) before after pass result seat same
+    (on_ok_both result (λ long_is all_are.
+    all_are ∙ channels_are clients (λ none. some (sym long_is ∙ none))) long all) ready called
+  where
+    on_ok_both : {T E P Q R : Type 0} (r : Result T E) → (P → Q → R) → OnOk r P → OnOk r Q → OnOk r R
+    on_ok_both (Ok x) both p q = both p q
+    on_ok_both (Err e) both p q = tt
 
 -- and of one that has none
-pub left_idle : {T E : Type 0} (w : Words) (number : ℕ) (deal : Deal) (conns : ℕ) (pass : Pass) (result : Result T E)
-    → conns ≡ 0 → IsNewcomer w pass (caller number) → LeavesSeat w number deal (channels_for conns) pass result
-left_idle w number deal conns pass result none is = record {
+pub left_idle : {T E : Type 0} (w : Words) (number : ℕ) (deal : Deal) (clients : List ChanId) (pass : Pass)
+    (result : Result T E) → clients ≡ [] → IsNewcomer w pass (caller number)
+    → LeavesSeat w number deal (channels_for clients) pass result
+left_idle w number deal clients pass result none is = record {
   ready = is.ready;
   called = on_ok_any result
-      (subst (λ n. HasCalled (limits_of w) (acts_seen pass (caller number)) (Some deal) (selector number)
-      (channels_for n)) (sym none) is.unregistered);
+      (subst (λ cs. HasCalled (limits_of w) (acts_seen pass (caller number)) (Some deal) (selector number)
+      (channels_for cs)) (sym none) is.unregistered);
 }
 
 -- and where a seat was refused
-pub left_unseated : {T E : Type 0} (w : Words) (number : ℕ) (deal : Deal) (registered : ℕ) (pass : Pass) (error : E)
+pub left_unseated : {T E : Type 0} (w : Words) (number : ℕ) (deal : Deal) (registered : List ChanId) (pass : Pass)
+    (error : E)
     → IsReady w pass (caller number) → LeavesSeat {T = T} w number deal registered pass (Err error)
 left_unseated w number deal registered pass error ready = record { ready = ready; called = tt }

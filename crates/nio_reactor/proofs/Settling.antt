@@ -8,10 +8,10 @@ use Rattle.std.proofs.lemmas.List.{append-nil, length-map, map-append}
 use Rattle.std.proofs.lemmas.List.Elements.{All-nil}
 use Rattle.std.proofs.lemmas.Option.{same_Some}
 use mathlib.Core.List.{IsPrefix}
-use Rattle.nio_reactor.proofs.Dealing.{dealt_mine, dealt_others, share_mine, share_others}
+use Rattle.nio_reactor.proofs.Dealing.{dealt_mine, dealt_others}
 use Rattle.nio_reactor.proofs.Handing.{below_next, length_below}
 use Rattle.nio_reactor.proofs.Lists.{first_same, rest_same}
-use Rattle.nio_reactor.proofs.Placed.{share_exact}
+use Rattle.nio_reactor.proofs.Shares.{share_exact, share_mine, share_others}
 use Rattle.nio_reactor.specs.Dealing.{dealt, number_of, share}
 use Rattle.nio_reactor.specs.Handing.{below}
 use Rattle.nio_reactor.specs.Receiving.{put_number}

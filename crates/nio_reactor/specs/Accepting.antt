@@ -1,14 +1,13 @@
 -- The net of the selector that accepts, at work.
-use Rattle.std.specs.Prelude.{◌≡◌, ◌≢◌, ℕ, ◌<◌, ◌≤◌, ◌⊎◌, OnOk, Result, Err, List, ◌++◌, map, length, slice_get}
+use Rattle.std.specs.Prelude.{◌≡◌, ◌≢◌, ℕ, zero, suc, ◌<◌, ◌≤◌, ◌⊎◌, OnOk, Result, Err, List, ◌++◌, map, length, slice_get}
 use Rattle.std.specs.Prelude.{Option, Some, None, [], ◌∷◌}
 use Rattle.nio_base.specs.declared.numbers.ChanId.{ChanId}
 use Rattle.nio_line.specs.Lines.{End as LineEnd}
 use Rattle.nio_link.specs.Links.{IsUnused}
 use Rattle.nio_link.specs.Nets.{Members, view_of}
-use Rattle.nio_link.specs.Places.{never_asked, IsVacant}
+use Rattle.nio_link.specs.Places.{channel, never_asked, IsVacant}
 use Rattle.nio_link.specs.declared.place.Role.TheVariants as role
 use Rattle.nio_serve.specs.Serving.{listener, IsFresh}
-use Rattle.nio_serve.specs.Slots.{client_at, clients_below}
 use Rattle.nio_reactor.specs.Dealing.{dealt, number_of}
 use Rattle.nio_reactor.specs.Many.{LeavesAcceptor}
 use Rattle.nio_reactor.specs.declared.many.ManyError.{ManyError}
@@ -18,6 +17,15 @@ use Rattle.nio_relay.specs.declared.plan.ProxyPlan.{ProxyPlan}
 use Rattle.nio_bytes.specs.Cause.{Rose}
 use Rattle.nio_reactor.specs.declared.message.Message.{Message}
 use Rattle.nio_reactor.specs.declared.message.Message.TheVariants.{End}
+
+-- All links are accepted under one number: that of the connection k, counted from 0, has the serial k.
+abbrev pub client_at : ℕ → ChanId
+client_at k = channel (record { 0 = 1 }) k
+
+-- those of the first connections
+abbrev pub clients_below : ℕ → List ChanId
+clients_below zero = []
+clients_below (suc n) = clients_below n ++ client_at n ∷ []
 
 -- So many links were accepted, in the order of their numbers. None of them stands there any more, and none has carried
 -- anything.

@@ -7,7 +7,6 @@ use Rattle.nio_bytes.specs.Cause.{Rose}
 use Rattle.nio_link.specs.Nets.{Members}
 use Rattle.nio_link.specs.declared.place.Place.{Place}
 use Rattle.nio_link.specs.declared.place.Role.TheVariants as role
-use Rattle.nio_serve.specs.Slots.{clients_below}
 use Rattle.nio_reactor.specs.Dealing.{share}
 use Rattle.nio_reactor.specs.declared.handover.Handover.{Handover}
 use Rattle.nio_reactor.specs.declared.many.ManyError.{ManyError}
@@ -71,15 +70,16 @@ KeepsLinks (Ok served) all failed = all
 KeepsLinks (Err NetFault) all failed = all ⊎ failed
 KeepsLinks (Err Memory) all failed = Unit {0}
 
--- Where the links went that were accepted in this call, so many. Each worker has put in the first of its own, under
+-- Where the links went that were accepted in this call. Each worker has put in the first of its own, under
 -- these channels, and the others were let go: none at Ok; at NetFault none but those of a worker of whose net a poll
 -- failed.
 pub record AccountsForLinks {N : Type 0} (n : Members N) (accepted_before accepted_now : List ChanId)
     (before now : List N) (handed_before handed_now : List Handover) (result : Result Served ManyError) : Type 0 where
-  pub count : ℕ
-  pub accepted : accepted_now ≡ accepted_before ++ clients_below count
+  pub clients : List ChanId
+  pub accepted : accepted_now ≡ accepted_before ++ clients
   pub put : ℕ → List ChanId
   pub handed : handed_now ≡ handed_before ++ handed_by (length before) put (length before)
-  pub few : (v : ℕ) → v < length before → length (put v) ≤ share (length before) v count
+  pub few : (v : ℕ) → v < length before → length (put v) ≤ share (length before) v (length clients)
   pub kept : (v : ℕ) (x y : N) → slice_get before v ≡ Some x → slice_get now v ≡ Some y
-      → KeepsLinks result (length (put v) ≡ share (length before) v count) (Rose (n.poll_faults x) (n.poll_faults y))
+      → KeepsLinks result (length (put v) ≡ share (length before) v (length clients))
+      (Rose (n.poll_faults x) (n.poll_faults y))

@@ -14,13 +14,14 @@ use Rattle.nio_reactor.specs.declared.handover.Handover.{Handover}
 use Rattle.nio_reactor.specs.declared.heard.Heard.{Heard}
 use Rattle.nio_reactor.specs.declared.heard.Heard.TheVariants as heard
 
--- the message that was heard last and whose link wasn't put in, by its connection; of the end, None
+-- the messages that were heard last and whose links weren't put in, by their connections; of the end, None
 abbrev pub in_hand : {L : Type 0} → Heard L → List (Option ℕ)
 in_hand heard.Nothing = []
 in_hand (heard.Link handed) = Some handed.number ∷ []
 in_hand (heard.Refused connection) = Some connection ∷ []
 in_hand heard.End = None ∷ []
 in_hand heard.Early = None ∷ []
+in_hand (heard.Over gone) = gone
 
 -- the line ended before all links had come
 abbrev pub is_early : {L : Type 0} → Heard L → Bool
@@ -29,6 +30,16 @@ is_early (heard.Link handed) = false
 is_early (heard.Refused connection) = false
 is_early heard.End = false
 is_early heard.Early = true
+is_early (heard.Over gone) = false
+
+-- the end was heard
+abbrev pub is_over : {L : Type 0} → Heard L → Bool
+is_over heard.Nothing = false
+is_over (heard.Link handed) = false
+is_over (heard.Refused connection) = false
+is_over heard.End = true
+is_over heard.Early = true
+is_over (heard.Over gone) = true
 
 -- the message with which this link was sent, by its connection
 abbrev pub put_number : Handover → Option ℕ

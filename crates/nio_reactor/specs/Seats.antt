@@ -1,14 +1,15 @@
 -- What the callers of the shared table have to do with it: before they serve, and once they have served.
-use Rattle.std.specs.Prelude.{◌≡◌, ℕ, zero, suc, ◌+◌, ◌*◌, ◌<◌, ◌≤◌, Some, OnOk, Result, List, [], length}
+use Rattle.std.specs.Prelude.{◌≡◌, ℕ, ◌+◌, ◌<◌, ◌≤◌, Some, OnOk, Result, List, [], ◌∷◌, length}
 use Rattle.std.specs.Prelude.{slice_index_or}
 use Rattle.nio_base.specs.declared.numbers.CallerNo.{CallerNo}
+use Rattle.nio_base.specs.declared.numbers.ChanId.{ChanId}
 use Rattle.nio_history.specs.PassViews.{HasNoPin}
 use Rattle.nio_history.specs.Histories.{mine}
 use Rattle.nio_relay.specs.declared.plan.ProxyPlan.{ProxyPlan}
 use Rattle.nio_relay.specs.declared.plan.Served.{Served}
 use Rattle.nio_board.specs.Board.{BoardView}
 use Rattle.nio_board.specs.Called.{HasCalled, IsUnregistered}
-use Rattle.nio_serve.specs.Serving.{listener}
+use Rattle.nio_serve.specs.Serving.{listener, run_channels}
 use Rattle.nio_board.specs.declared.deal.Deal.{Deal}
 use Rattle.nio_serve.specs.declared.serving.ServeError.{ServeError}
 use Rattle.nio_steps.specs.Names.{selector}
@@ -16,8 +17,10 @@ use Rattle.nio_words.specs.Passes.{Holds, IsOnly, IsPassOf, IsReady, acts_seen, 
 use Rattle.nio_words.specs.Views.{view}
 use Rattle.nio_words.specs.declared.words.Pass.{Pass}
 use Rattle.nio_words.specs.declared.words.Words.{Words}
-use Rattle.nio_reactor.specs.Dealing.{share}
-use Rattle.nio_reactor.specs.Placing.{caller}
+use Rattle.nio_reactor.specs.Dealing.{slots_of}
+use Rattle.nio_reactor.specs.Placing.{caller, deal_of}
+use Rattle.nio_reactor.specs.Working.{clients_of}
+use Rattle.nio_reactor.specs.declared.handover.Handover.{Handover}
 
 -- ---- before
 
@@ -52,43 +55,41 @@ pub record IsHandingOut (w : Words) (p : Pass) (passes : List Pass) (k n : ℕ) 
 
 -- ---- the shares
 
--- The share of worker v of w. The channels of the lines come after those of the connections.
-abbrev pub deal_of : ℕ → ℕ → ℕ → Deal
-deal_of w v conns = record { workers = w; worker = v; listener = record { 0 = 2 * conns + 1 + v } }
-
 -- that of the acceptor: each channel has its own number
 abbrev pub acceptor_deal : Deal
 acceptor_deal = record { workers = 1; worker = 0; listener = listener.number }
 
--- how many channels a worker registers for so many connections: its line, where it has any, and two for each
-abbrev pub channels_for : ℕ → ℕ
-channels_for zero = 0
-channels_for (suc n) = 2 * suc n + 1
+-- which channels a worker registers for these connections: where it has any, its line and the two of each
+abbrev pub channels_for : List ChanId → List ChanId
+channels_for [] = []
+channels_for (client ∷ rest) = run_channels (client ∷ rest)
 
--- a board of the caller of this number, with the selector of this number, on which so many channels are registered
-pub record IsSeat (w : Words) (number : ℕ) (deal : Deal) (registered : ℕ) (board : BoardView) : Type 0 where
+-- a board of the caller of this number, with the selector of this number, on which no channel is registered
+pub record IsSeat (w : Words) (number : ℕ) (deal : Deal) (board : BoardView) : Type 0 where
   pub words : board.words ≡ w
   pub caller_is : board.caller ≡ caller number
   pub selector_is : board.selector ≡ selector number
   pub deal_is : board.deal ≡ Some deal
-  pub registered_is : board.registered ≡ registered
+  pub registered_is : board.registered ≡ []
 
 -- ---- at the end
 
--- The caller of this number may step with the pass. Where it has served, it has registered so many channels of its
--- share, with the selector of its number, and nothing else.
-pub record LeavesSeat {T E : Type 0} (w : Words) (number : ℕ) (deal : Deal) (registered : ℕ) (pass : Pass)
+-- The caller of this number may step with the pass. Where it has served, it has registered these channels of its share,
+-- with the selector of its number, and nothing else.
+pub record LeavesSeat {T E : Type 0} (w : Words) (number : ℕ) (deal : Deal) (registered : List ChanId) (pass : Pass)
     (result : Result T E) : Type 0 where
   pub ready : IsReady w pass (caller number)
   pub called : OnOk result
       (HasCalled (limits_of w) (acts_seen pass (caller number)) (Some deal) (selector number) registered)
 
--- so does each worker: `pass` and `outcome` are what its lane shows
-abbrev pub LeaveSeats : {X : Type 0} → Words → ProxyPlan → (X → Pass) → (X → Result Served ServeError) → List X
-    → List X → Type 0
-LeaveSeats {X} w plan pass outcome before now =
-    (v : ℕ) (x : X) → v < length before → LeavesSeat w (v + 1) (deal_of (length before) v plan.conns)
-    (channels_for (share (length before) v plan.conns)) (pass (slice_index_or now v x))
+-- So does each worker, whose channels are those of the connections that it has put in: `pass`, `put` and `outcome` are
+-- what its lane shows.
+abbrev pub LeaveSeats : {X : Type 0} → Words → ProxyPlan → (X → Pass) → (X → List Handover)
+    → (X → Result Served ServeError) → List X → List X → Type 0
+LeaveSeats {X} w plan pass put outcome before now =
+    (v : ℕ) (x : X) → v < length before
+    → LeavesSeat w (v + 1) (deal_of (length before) v (slots_of (length before) plan))
+    (channels_for (clients_of (put (slice_index_or now v x)))) (pass (slice_index_or now v x))
     (outcome (slice_index_or now v x))
 
 -- the numbers of the one pass are held by the other, and have done the same there

@@ -1,5 +1,5 @@
 -- What one worker has come to.
-use Rattle.std.specs.Prelude.{◌≡◌, ◌≢◌, ℕ, ◌<◌, ◌⊎◌, Bool, IsTrue, IfOk, IsOk, Result, Ok, Err, Option, Some}
+use Rattle.std.specs.Prelude.{◌≡◌, ◌≢◌, ℕ, ◌<◌, ◌≤◌, ◌⊎◌, Bool, IsTrue, IfOk, IsOk, Result, Ok, Err, Option, Some}
 use Rattle.std.specs.Prelude.{None, All, option_map, List, length, map, slice_get, slice_index_or}
 use Rattle.nio_base.specs.declared.numbers.Addr.{Addr}
 use Rattle.nio_base.specs.declared.numbers.ChanId.{ChanId}
@@ -62,6 +62,12 @@ pub record AddsAll {X : Type 0} (outcome : X → Result Served ServeError) (conn
   pub connections : served.connections ≡ conns
   pub faults : served.faults ≡ sum_below (λ v. faults_of (option_map outcome (slice_get lanes v))) (length lanes)
   pub all : (v : ℕ) (x : X) → slice_get lanes v ≡ Some x → IsOk (outcome x)
+
+-- no worker that has served its connections, of so many, counted more faults than it has connections
+abbrev pub CountFew : {X : Type 0} → (X → Result Served ServeError) → ℕ → List X → Type 0
+CountFew {X} outcome conns lanes =
+    (v : ℕ) (x : X) → slice_get lanes v ≡ Some x
+    → IfOk (outcome x) (λ served. served.faults ≤ share (length lanes) v conns)
 
 -- a worker has ended for this reason
 pub record HasEnded {X : Type 0} (reason : ServeError) (outcome : X → Result Served ServeError) (lanes : List X)

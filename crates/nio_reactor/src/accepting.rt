@@ -1,5 +1,5 @@
 //! The selector that accepts.
-ghost use Rattle.std.specs.Prelude.{◌≡◌, ℕ, ◌<◌, ◌≤◌, ◌+◌, ◌⊎◌, Err, IfOk, IsTrue, IsFalse, OnOk, OnErr, length};
+ghost use Rattle.std.specs.Prelude.{◌≡◌, ℕ, ◌<◌, ◌≤◌, ◌+◌, ◌⊎◌, [], ◌∷◌, Err, IfOk, IsTrue, IsFalse, OnOk, OnErr, length};
 ghost use Rattle.nio_base.specs.declared.numbers.ChanNo.{ChanNo as Channel};
 ghost use Rattle.nio_bytes.specs.Cause.{Rose};
 ghost use Rattle.nio_link.specs.Nets.{view_of};
@@ -7,9 +7,8 @@ ghost use Rattle.nio_link.specs.declared.place.Standing.TheVariants.{Listening};
 ghost use Rattle.nio_relay.specs.Plan.{IsServable};
 ghost use Rattle.nio_board.specs.Board.{AreReady, IsSameBoard, IsSameSeat};
 ghost use Rattle.nio_serve.specs.Serving.{listener, IsFresh};
-ghost use Rattle.nio_serve.specs.Slots.{clients_below};
 ghost use Rattle.nio_base.specs.Ops.{is_within};
-ghost use Rattle.nio_reactor.specs.Accepting.{Accepts, AreEnded, Deals, HasAccepted, HasSent, IsAccepting};
+ghost use Rattle.nio_reactor.specs.Accepting.{Accepts, AreEnded, Deals, HasAccepted, HasSent, IsAccepting, clients_below};
 ghost use Rattle.nio_reactor.specs.Many.{LeavesAcceptor};
 ghost use Rattle.nio_reactor.specs.Placing.{caller};
 ghost use Rattle.nio_reactor.specs.Seats.{IsNewcomer, LeavesSeat, acceptor_deal};
@@ -36,7 +35,7 @@ fn ring<B: Bell>(bells: &[B], worker: usize) {
     }
 }
 
-// Sends the link of this connection to its worker.
+// Sends the link of this connection to its worker. Waits while that has as many links to take as it has slots.
 fn deal<R: Wait, L: Drop, B: Bell>(
     rt: &R,
     lines: &mut [LineIn<Message<L>>],
@@ -62,7 +61,6 @@ fn accept_one<R: Wait, N: Passable, B: Bell>(
     requires ready { IsTrue (is_within 16 (N.ready net.old listener.number)) }
     requires listens { (N.place net.old listener).standing ≡ Listening }
     requires accepting { IsAccepting N.Net number net.old }
-    requires few { number < 16000 }
     requires some { 0 < length lines.old }
     ensures listens { N.place net.new listener ≡ N.place net.old listener }
     ensures come { IfOk result (λ more. IsTrue more → IsAccepting N.Net (number + 1) net.new) }
@@ -97,7 +95,7 @@ fn accept_come<R: Wait, N: Passable, B: Bell>(
     requires ready { IsTrue (is_within 16 (N.ready net.old listener.number)) }
     requires listens { (N.place net.old listener).standing ≡ Listening }
     requires accepting { IsAccepting N.Net number.old net.old }
-    requires few { (number.old ≤ conns) × (conns ≤ 16000) }
+    requires few { number.old ≤ conns }
     requires some { 0 < length lines.old }
     ensures listens { N.place net.new listener ≡ N.place net.old listener }
     ensures within { number.new ≤ conns }
@@ -142,7 +140,7 @@ fn round<R: Wait, N: Passable, B: Bell>(
 ) -> Result<(), ManyError>
     requires listens { (N.place net.old listener).standing ≡ Listening }
     requires accepting { IsAccepting N.Net number.old net.old }
-    requires few { (number.old ≤ conns) × (conns ≤ 16000) }
+    requires few { number.old ≤ conns }
     requires some { 0 < length lines.old }
     ensures listens { N.place net.new listener ≡ N.place net.old listener }
     ensures within { number.new ≤ conns }
@@ -178,7 +176,7 @@ fn deal_all<R: Wait, N: Passable, B: Bell>(
 ) -> Result<(), ManyError>
     requires listens { (N.place net.old listener).standing ≡ Listening }
     requires accepting { IsAccepting N.Net number.old net.old }
-    requires few { (number.old ≤ conns) × (conns ≤ 16000) }
+    requires few { number.old ≤ conns }
     requires some { 0 < length lines.old }
     ensures listens { N.place net.new listener ≡ N.place net.old listener }
     ensures within { number.new ≤ conns }
@@ -221,7 +219,7 @@ fn accept_plan<R: Wait, N: Passable, B: Bell>(
     requires fresh { IsFresh (view_of N.Net net.old) }
     requires some { 0 < length lines.old }
     requires none { number.old ≡ 0 }
-    requires unregistered { board.old.registered ≡ 0 }
+    requires unregistered { board.old.registered ≡ [] }
     ensures within { number.new ≤ plan.conns }
     ensures all { OnOk result (number.new ≡ plan.conns) }
     ensures accepted { Accepts N.Net number.old number.new net.old net.new }
@@ -230,9 +228,9 @@ fn accept_plan<R: Wait, N: Passable, B: Bell>(
         ⊎ Rose (N.faults net.old listener) (N.faults net.new listener) }
     ensures leaves { LeavesAcceptor plan (clients_below number.new) (view_of N.Net net.old) (view_of N.Net net.new) }
     ensures seat { IsSameSeat board.old board.new }
-    ensures registered { OnOk result (board.new.registered ≡ 1) }
+    ensures registered { OnOk result (board.new.registered ≡ listener ∷ []) }
 {
-    let Ok(_port) = board.watch(rt, LISTENER.number, Kind::Listener, Ops::ACCEPT) else {
+    let Ok(_port) = board.watch(rt, LISTENER, Kind::Listener, Ops::ACCEPT) else {
         return Err(ManyError::Memory);
     };
     if net.listen(LISTENER, plan.listen).is_err() {
@@ -267,7 +265,7 @@ fn accept_seated<R: Wait, N: Passable, B: Bell>(
     ensures cause { result ≡ Err NetFault → Rose (N.poll_faults net.old) (N.poll_faults net.new)
         ⊎ Rose (N.faults net.old listener) (N.faults net.new listener) }
     ensures leaves { LeavesAcceptor plan (clients_below number.new) (view_of N.Net net.old) (view_of N.Net net.new) }
-    ensures seat { LeavesSeat words.now 0 acceptor_deal 1 pass.new result }
+    ensures seat { LeavesSeat words.now 0 acceptor_deal (listener ∷ []) pass.new result }
 {
     let Some(board) = take_seat(alloc, words, pass, ACCEPTOR, acceptor_share()) else {
         return Err(ManyError::Memory);
@@ -305,7 +303,7 @@ fn deal_plan<R: Wait, N: Passable, B: Bell>(
     requires newcomer { IsNewcomer words.now pass.old (caller 0) }
     ensures accepted { HasAccepted N.Net plan net.old net.new result }
     ensures sent { HasSent (N.accepted net.old) (N.accepted net.new) lines.old lines.new }
-    ensures seat { LeavesSeat words.now 0 acceptor_deal 1 pass.new result }
+    ensures seat { LeavesSeat words.now 0 acceptor_deal (listener ∷ []) pass.new result }
 {
     let mut number = 0;
     let outcome = accept_seated(rt, alloc, words, pass, net, lines, bells, plan, &mut number);
@@ -327,7 +325,7 @@ pub(crate) fn accept_all<R: Wait, N: Passable, B: Bell + Drop>(
     ensures accepted { HasAccepted N.Net outgoing.old.plan net.old net.new result }
     ensures sent { HasSent (N.accepted net.old) (N.accepted net.new) outgoing.old.lines.items
         outgoing.new.lines.items }
-    ensures seat { LeavesSeat words.now 0 acceptor_deal 1 outgoing.new.pass result }
+    ensures seat { LeavesSeat words.now 0 acceptor_deal (listener ∷ []) outgoing.new.pass result }
 {
     let Outgoing {
         alloc,

@@ -51,7 +51,7 @@ impl<'a, H, G> ByLine<'a, H, G> {
         }
     }
 
-    // The index of the listener's key, where it is watched. The key keeps its index.
+    // The index of the listener's key, where it is watched to accept. The key keeps its index.
     fn listener_key(&mut self, asked: &Asked) -> Option<u32>
         ensures { IfSome result (IsListenerKey asked.now.keys) }
     {
@@ -60,7 +60,7 @@ impl<'a, H, G> ByLine<'a, H, G> {
         }
         let index = self.listener?;
         let key = asked.key(index)?;
-        if key.channel == LISTENER.number {
+        if key.channel == LISTENER.number && Ops::ACCEPT.within(key.interest) {
             Some(index)
         } else {
             None
@@ -100,7 +100,10 @@ impl<'a, H: Wait, N: Passable, K: Lines<N::Link>, G: Gate> Polls<Lane<N, K>> for
         asked: &Asked,
         mode: Mode,
     ) -> Result<Told, PollError> {
-        if matches!(lane.heard, Heard::Refused(_) | Heard::Early) {
+        if matches!(
+            lane.heard,
+            Heard::Refused(_) | Heard::Early | Heard::Over(_)
+        ) {
             return Err(PollError::Memory);
         }
         let told_line = lane.ready.is_of_line();
@@ -128,7 +131,7 @@ impl<'a, H: Wait, N: Passable, K: Lines<N::Link>, G: Gate> Polls<Lane<N, K>> for
             // the connections that are live go on
             Heard::End => return lane.net.poll(rt, alloc, asked, mode),
             Heard::Nothing => return lane.net.poll(rt, alloc, asked, self.wait),
-            Heard::Refused(_) | Heard::Early => return Err(PollError::Memory),
+            Heard::Refused(_) | Heard::Early | Heard::Over(_) => return Err(PollError::Memory),
             Heard::Link(_) => {}
         }
         if told_line {
@@ -190,6 +193,7 @@ impl<'a, H: Wait, N: Passable, K: Lines<N::Link>, G: Gate> Way<Lane<N, K>> for B
             || lane.ready != Ready::Line
             || lane.left == 0
             || !is_open(lane.worker, lane.door)
+            || chan.number.0 >= 2 * lane.slots
         {
             return None;
         }

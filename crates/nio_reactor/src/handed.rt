@@ -46,7 +46,6 @@ pub(crate) fn accept_link<N: Passable>(
     requires ready { IsTrue (is_within 16 (N.ready net.old listener.number)) }
     requires listens { (N.place net.old listener).standing ≡ Listening }
     requires accepting { IsAccepting N.Net number net.old }
-    requires few { number < 16000 }
     ensures listens { N.place net.new listener ≡ N.place net.old listener }
     ensures come { IfOk result (λ come. IsSome come → IsAccepting N.Net (number + 1) net.new) }
     ensures early { IfOk result (λ come. IsNone come → IsAccepting N.Net number net.new) }
@@ -59,7 +58,10 @@ pub(crate) fn accept_link<N: Passable>(
     ensures more { IfOk result (λ come. IsSome come → N.ready net.new listener.number
         ≡ N.ready net.old listener.number) }
 {
-    let client = ChanId::first(ChanNo(2 * number + 1));
+    let client = ChanId {
+        number: ChanNo(1),
+        serial: number,
+    };
     if !net.accept(LISTENER, client)? {
         return Ok(None);
     }

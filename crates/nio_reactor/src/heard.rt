@@ -1,13 +1,14 @@
 //! What a worker hears on its line.
-ghost use Rattle.std.specs.Prelude.{◌≡◌, ℕ, [], ◌∷◌, ◌++◌, List, MatchOption, Option, Some, map};
+ghost use Rattle.std.specs.Prelude.{◌≡◌, ℕ, [], ◌∷◌, ◌++◌, false, IsTrue, List, MatchOption, Option, Some, map};
 ghost use Rattle.nio_reactor.specs.Dealing.{number_of};
-ghost use Rattle.nio_reactor.specs.Receiving.{in_hand, is_early};
+ghost use Rattle.nio_reactor.specs.Receiving.{in_hand, is_early, is_over};
 ghost use Rattle.nio_reactor.specs.declared.heard.Heard.TheVariants.{Nothing};
 
 use crate::handed::Handed;
 use crate::message::Message;
 use nio_base::Gate;
 use nio_line::LineOut;
+use nio_trace::Trace;
 use std::mem;
 use std::sync::Wait;
 
@@ -24,6 +25,8 @@ pub(crate) enum Heard<L> {
     End,
     /// The end, before all links of the worker had come, where no connection was live.
     Early,
+    /// All that came once the worker had ended: these links were let go, and last came the end.
+    Over(Trace<Option<u32>>),
 }
 
 // The next message of a line: waits for it, or takes one that has come.
@@ -68,6 +71,57 @@ pub(crate) fn hear<R: Wait, G: Gate, L: Drop>(
         Some(Message::End) => *heard = Heard::End,
         None => {}
     }
+}
+
+// The link of this connection, as one that was let go.
+fn one(connection: u32) -> Trace<Option<u32>>
+    ensures { result ≡ Some connection ∷ [] }
+{
+    let mut gone = Trace::new();
+    gone.push(&Some(connection));
+    gone
+}
+
+// The links that were heard and not put in. None where the end was heard.
+fn unused<L>(heard: &Heard<L>) -> Option<Trace<Option<u32>>>
+    ensures { MatchOption result (IsTrue (is_over heard.now))
+        (λ gone. (gone ≡ in_hand heard.now) × (is_early heard.now ≡ false)) }
+{
+    match heard {
+        Heard::End | Heard::Early | Heard::Over(_) => None,
+        Heard::Nothing => Some(Trace::new()),
+        Heard::Link(handed) => Some(one(handed.number())),
+        Heard::Refused(connection) => Some(one(*connection)),
+    }
+}
+
+/// Receives all that still comes on a line, to its end, and lets the links go: so nobody that sends waits for a worker
+/// that has ended.
+pub(crate) fn hear_out<R: Wait, L: Drop>(
+    rt: &R,
+    line: &mut LineOut<Message<L>>,
+    heard: &mut Heard<L>,
+)
+    ensures line { line.new.line ≡ line.old.line }
+    ensures numbers { (used : List (Option ℕ)) → map number_of line.old.carried ≡ used ++ in_hand heard.old
+        → map number_of line.new.carried ≡ used ++ in_hand heard.new }
+    ensures early { is_early heard.new ≡ is_early heard.old }
+    ensures over { IsTrue (is_over heard.new) }
+{
+    let Some(mut gone) = unused(heard) else {
+        return;
+    };
+    for _ in rt.forever() {
+        match line.receive(rt) {
+            Message::Work(handed) => gone.push(&Some(handed.number())),
+            Message::End => {
+                gone.push(&None);
+                *heard = Heard::Over(gone);
+                return;
+            }
+        }
+    }
+    unreachable!()
 }
 
 /// The next link, if it has come.

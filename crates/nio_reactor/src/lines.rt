@@ -2,7 +2,8 @@
 
 use std::marker::Brand;
 
-/// Which lines there are, to messages with links of type `L`, and how many connections the plan has. The lanes of all
+/// Which lines there are, to messages with links of type `L`, how many connections the plan has, and how many slots there
+/// are. The lanes of all
 /// workers are of one type by this: what a lane knows of its line lasts whatever is done with the lane.
 pub(crate) trait Lines<L> {
     ghost use Rattle.std.specs.Prelude.{ℕ, List};
@@ -13,6 +14,8 @@ pub(crate) trait Lines<L> {
     ghost lines: { List (LineId (Message L)) };
 
     ghost conns: { ℕ };
+
+    ghost slots: { ℕ };
 }
 
 impl<L> Lines<L> for Brand {
@@ -21,4 +24,6 @@ impl<L> Lines<L> for Brand {
     ghost lines = { [] };
 
     ghost conns = { 0 };
+
+    ghost slots = { 0 };
 }

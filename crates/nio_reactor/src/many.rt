@@ -1,5 +1,5 @@
 //! Serving a plan with one selector that accepts and others that work.
-ghost use Rattle.std.specs.Prelude.{◌≡◌, ◌<◌, ◌≤◌, ◌+◌, ◌++◌, [], false, All, IfOk, IsFalse, IsTrue, OnErr, OnOk, length};
+ghost use Rattle.std.specs.Prelude.{◌≡◌, ◌≢◌, ◌<◌, ◌≤◌, ◌+◌, ◌++◌, [], ◌∷◌, false, All, IfOk, IsFalse, IsTrue, OnErr, OnOk, length};
 ghost use Rattle.std.specs.Prelude.{map};
 ghost use Rattle.std.specs.Prelude.{vec_capacity};
 ghost use Rattle.nio_link.specs.Nets.{view_of};
@@ -10,12 +10,13 @@ ghost use Rattle.nio_serve.specs.Serving.{listener, IsFresh};
 ghost use Rattle.nio_serve.specs.declared.serving.ServeError.TheVariants.{Memory as LacksMemory};
 ghost use Rattle.nio_words.specs.Passes.{IsPassOf, limits_of, seen};
 ghost use Rattle.nio_reactor.specs.Accepting.{CanAccept, HasAccepted, HasSent};
+ghost use Rattle.nio_reactor.specs.Dealing.{slots_of};
 ghost use Rattle.nio_reactor.specs.Handing.{AccountsForLinks, AreHanded, put_below};
 ghost use Rattle.nio_reactor.specs.Many.{ServesMany};
 ghost use Rattle.nio_reactor.specs.Placing.{ArePlaced, HoldsAll, caller, served_of, table_for};
 ghost use Rattle.nio_reactor.specs.Receiving.{AreOwn, AreSettled, HaveReceived, is_early};
 ghost use Rattle.nio_reactor.specs.Seats.{HaveSeats, IsNewcomer, LeaveSeats, LeavesSeat, StandsIn, acceptor_deal};
-ghost use Rattle.nio_reactor.specs.Working.{AddsUp, Concludes, HasEnded, HaveWorked, NoneHasEnded};
+ghost use Rattle.nio_reactor.specs.Working.{AddsUp, Concludes, CountFew, HasEnded, HaveWorked, NoneHasEnded};
 ghost use Rattle.nio_reactor.specs.declared.door.Door.TheVariants.{Unasked};
 
 use crate::accepting::accept_all;
@@ -24,7 +25,7 @@ use crate::lane::{Lane, Worker};
 use crate::lines::Lines;
 use crate::message::{Message, Outgoing};
 use crate::table::{limits_for, set_up};
-use crate::working::{share_of, work_all};
+use crate::working::{share_of, slots_for, work_all};
 use nio_base::Gate;
 use nio_line::{LineIn, LineOut, open};
 use nio_link::Passable;
@@ -50,7 +51,7 @@ pub enum ManyError {
     Memory,
 }
 
-// A line to each worker, with room for so many messages.
+// A line to each worker, with room for so many messages that it hasn't received yet.
 fn open_lines<L: Drop>(
     alloc: Global,
     workers: usize,
@@ -73,6 +74,14 @@ fn open_lines<L: Drop>(
     Ok((entries, exits))
 }
 
+// How many messages a line has room for: a link for each slot of its worker, and the end.
+fn room_for(workers: u32, slots: u32) -> usize
+    requires { workers ≢ 0 }
+    ensures { 0 < result }
+{
+    (slots / workers) as usize + 2
+}
+
 // Takes the nets, each for a worker with one of the lines and one of the passes. The first `bells` of them have bells.
 // Where memory lacks they stay.
 fn staff<N: Passable + Drop, K: Lines<N::Link>>(
@@ -81,11 +90,13 @@ fn staff<N: Passable + Drop, K: Lines<N::Link>>(
     lines: Vec<LineOut<Message<N::Link>>>,
     passes: Vec<Pass>,
     bells: usize,
-    conns: u32,
+    plan: ProxyPlan,
 ) -> Result<Vec<Worker<N, K>>, AllocError>
+    requires plan { IsServable plan }
     requires lines { map (λ e. e.line) lines.items ≡ K.lines }
     requires new { All (λ e. e.carried ≡ []) lines.items }
-    requires conns { conns ≡ K.conns }
+    requires conns { plan.conns ≡ K.conns }
+    requires slots { slots_of (length more.old.items) plan ≡ K.slots }
     requires few { length more.old.items ≤ 15 }
     requires exits { length lines.items ≡ length more.old.items }
     requires passes { length passes.items ≡ length more.old.items }
@@ -98,19 +109,19 @@ fn staff<N: Passable + Drop, K: Lines<N::Link>>(
     ensures room { OnOk result (length more.old.items ≤ vec_capacity more.new) }
     ensures same { OnErr result (more.new.items ≡ more.old.items) }
 {
-    let count = more.len();
-    let mut workers = Vec::with_capacity(alloc, count)?;
+    let count = more.len() as u32;
+    let slots = slots_for(count, plan);
+    let mut workers = Vec::with_capacity(alloc, count as usize)?;
     let (mut lines, mut passes) = (lines, passes);
-    for worker in 0..count as u32 {
-        let left = share_of(count as u32, worker, conns);
-        let has_bell = (worker as usize) < bells;
+    for worker in 0..count {
         let lane = Lane::over(
             alloc,
             more.remove(0),
             worker,
             lines.remove(0),
-            left,
-            has_bell,
+            share_of(count, worker, plan.conns),
+            share_of(count, worker, slots),
+            (worker as usize) < bells,
         );
         workers.push_reserved(Worker {
             lane,
@@ -182,7 +193,7 @@ fn add_up<N: Passable, K: Lines<N::Link>>(
     conns: u32,
 ) -> Result<Served, ManyError>
     requires few { length workers.now ≤ 15 }
-    requires faults { All (λ x. IfOk x.lane.outcome (λ served. served.faults ≤ 16000)) workers.now }
+    requires faults { CountFew (λ x. x.lane.outcome) conns workers.now }
     requires memory { NoneHasEnded LacksMemory (λ x. x.lane.outcome) workers.now }
     ensures { AddsUp (λ x. x.lane.outcome) conns workers.now result }
 {
@@ -207,7 +218,7 @@ fn conclude<N: Passable, K: Lines<N::Link>>(
     conns: u32,
 ) -> Result<Served, ManyError>
     requires few { length workers.now.items ≤ 15 }
-    requires faults { All (λ x. IfOk x.lane.outcome (λ served. served.faults ≤ 16000)) workers.now.items }
+    requires faults { CountFew (λ x. x.lane.outcome) conns workers.now.items }
     ensures { Concludes accepted (λ x. x.lane.outcome) conns workers.now.items result }
 {
     if lacks_memory(workers) {
@@ -232,7 +243,7 @@ fn work_beside<
     plan: ProxyPlan,
     accept: &mut A,
 ) -> Result<(), ManyError>
-    requires conns { plan.conns ≤ 16000 }
+    requires plan { IsServable plan }
     requires few { length workers.old.items ≤ 15 }
     requires nets { All (λ x. IsFresh (view_of N.Net x.lane.net)) workers.old.items }
     requires doors { All (λ x. x.lane.door ≡ Unasked) workers.old.items }
@@ -244,8 +255,8 @@ fn work_beside<
         (λ x. is_early x.lane.heard) (λ x. x.lane.outcome) workers.old.items workers.new.items }
     ensures received { HaveReceived plan (λ x. x.lane.line) (λ x. x.lane.worker) (λ x. x.lane.put)
         (λ x. x.lane.outcome) workers.old.items workers.new.items }
-    ensures leaves { LeaveSeats words.now plan (λ x. x.pass) (λ x. x.lane.outcome) workers.old.items
-        workers.new.items }
+    ensures leaves { LeaveSeats words.now plan (λ x. x.pass) (λ x. x.lane.put) (λ x. x.lane.outcome)
+        workers.old.items workers.new.items }
     ensures count { length workers.new.items ≡ length workers.old.items }
 {
     work_all(rt, words, gate, plan, workers.as_mut_slice(), accept)
@@ -280,13 +291,13 @@ fn serve_lanes<
     ensures accepted { HasAccepted N.Net plan net.old net.new result }
     ensures sent { HasSent (N.accepted net.old) (N.accepted net.new) outgoing.old.lines.items
         outgoing.new.lines.items }
-    ensures seat { LeavesSeat words.now 0 acceptor_deal 1 outgoing.new.pass result }
+    ensures seat { LeavesSeat words.now 0 acceptor_deal (listener ∷ []) outgoing.new.pass result }
     ensures worked { HaveWorked N.Net plan (λ x. x.lane.net) (λ x. x.lane.put)
         (λ x. is_early x.lane.heard) (λ x. x.lane.outcome) workers.old.items workers.new.items }
     ensures received { HaveReceived plan (λ x. x.lane.line) (λ x. x.lane.worker) (λ x. x.lane.put)
         (λ x. x.lane.outcome) workers.old.items workers.new.items }
-    ensures leaves { LeaveSeats words.now plan (λ x. x.pass) (λ x. x.lane.outcome) workers.old.items
-        workers.new.items }
+    ensures leaves { LeaveSeats words.now plan (λ x. x.pass) (λ x. x.lane.put) (λ x. x.lane.outcome)
+        workers.old.items workers.new.items }
     ensures count { length workers.new.items ≡ length workers.old.items }
 {
     work_beside(
@@ -303,7 +314,7 @@ fn serve_lanes<
                 outgoing.entry.now.plan net.entry.now net.exit.now result
                 × HasSent (N.accepted net.entry.now) (N.accepted net.exit.now) outgoing.entry.now.lines.items
                 outgoing.exit.now.lines.items
-                × LeavesSeat words.entry.now 0 acceptor_deal 1 outgoing.exit.now.pass result }
+                × LeavesSeat words.entry.now 0 acceptor_deal (listener ∷ []) outgoing.exit.now.pass result }
         { accept_all(rt, words, net, outgoing) },
     )
 }
@@ -319,8 +330,8 @@ fn answer(outcome: Result<Served, ManyError>, pass: Pass) -> Result<(Served, Pas
     }
 }
 
-// `serve_many` between the two ends of the lines that were opened: `K` says which lines these are, and how many
-// connections the plan has.
+// `serve_many` between the two ends of the lines that were opened: `K` says which lines these are, how many connections
+// the plan has, and how many slots there are.
 fn serve_between<
     K: Lines<N::Link> + Send,
     R: Threads + Wait + Sync,
@@ -343,6 +354,7 @@ fn serve_between<
     requires fresh { IsFresh (view_of N.Net net.old) }
     requires nets { All (λ x. IsFresh (view_of N.Net x)) more.old.items }
     requires conns { outgoing.plan.conns ≡ K.conns }
+    requires slots { slots_of (length more.old.items) outgoing.plan ≡ K.slots }
     requires lines_in { map (λ e. e.line) outgoing.lines.items ≡ K.lines }
     requires lines_out { map (λ e. e.line) exits.items ≡ K.lines }
     requires entries { length outgoing.lines.items ≡ length more.old.items }
@@ -361,11 +373,12 @@ fn serve_between<
     ensures pass { IfOk result (λ done. HoldsAll (table_for (length more.old.items)) done.1) }
     ensures whole { IfOk result (λ done. IsWhole (table_for (length more.old.items)) (seen done.1)) }
     ensures orderly { IfOk result (λ done. IsOrderly (table_for (length more.old.items)) (seen done.1)) }
-    ensures placed { IfOk result (λ done. ArePlaced (length more.old.items) outgoing.plan.conns (seen done.1)) }
+    ensures placed { IfOk result (λ done. ArePlaced (length more.old.items)
+        (slots_of (length more.old.items) outgoing.plan) handed.old handed.new (seen done.1)) }
 {
     let plan = outgoing.plan;
     let bells = outgoing.bells.len();
-    let Ok(workers) = staff::<N, K>(outgoing.alloc, more, exits, passes, bells, plan.conns) else {
+    let Ok(workers) = staff::<N, K>(outgoing.alloc, more, exits, passes, bells, plan) else {
         return Err(ManyError::Memory);
     };
     let (mut workers, mut outgoing) = (workers, outgoing);
@@ -382,8 +395,12 @@ fn serve_between<
 /// a net of `more` and a selector of its own. It passes the test gate with its number and the connection's, puts the
 /// link into its net, connects it to the target, and relays.
 ///
+/// A plan's slots are shared out among the workers, at least one each; a worker relays as many connections at once as it
+/// has slots, and as many more wait on its line. While those of the next connection's worker are all taken, no further
+/// one is accepted.
+///
 /// The workers work while further connections are accepted. Where no thread can be made, all connections are accepted
-/// first, and then the workers work one after another.
+/// first, and then the workers work one after another: so with more connections than slots the call doesn't return then.
 ///
 /// The first of the nets of `more` have the bells `bells`, in their order. The acceptor rings after each link that it
 /// sends. A worker without a bell that has live connections looks at its line every 4 ms.
@@ -395,9 +412,10 @@ fn serve_between<
 /// comes before `NetFault`, so where that is answered no thread lacked memory.
 ///
 /// The acceptor and the workers share one table. Caller 0 accepts, with selector 0; worker v is caller v + 1, with
-/// selector v + 1. Before any of them works, caller 0 opens all channels: 0 for the listener, 2k + 1 and 2k + 2 for the
-/// links of connection k, then one for the line of each worker. A worker registers the channels of its connections, and
-/// that of its line, with its selector. The pass that is answered has every caller's number, and has seen all of this.
+/// selector v + 1. Before any of them works, caller 0 opens the first channel of each number: 0 for the listener, 2k + 1
+/// and 2k + 2 for slot k, which is for worker k modulo their count, then one for the line of each worker. A worker
+/// registers the channels of its connections, and that of its line, with its selector; its slot serves again by the next
+/// channels of its numbers. The pass that is answered has every caller's number, and has seen all of this.
 ///
 /// At every end no link stands in any of the nets, and the listener is closed. A link that was accepted and not put in
 /// yet is let go. `handed` gets the links that were put in, one worker after the other.
@@ -430,17 +448,19 @@ pub fn serve_many<
     ensures pass { IfOk result (λ done. HoldsAll (table_for (length more.old.items)) done.1) }
     ensures whole { IfOk result (λ done. IsWhole (table_for (length more.old.items)) (seen done.1)) }
     ensures orderly { IfOk result (λ done. IsOrderly (table_for (length more.old.items)) (seen done.1)) }
-    ensures placed { IfOk result (λ done. ArePlaced (length more.old.items) plan.conns (seen done.1)) }
+    ensures placed { IfOk result (λ done. ArePlaced (length more.old.items) (slots_of (length more.old.items) plan)
+        handed.old handed.new (seen done.1)) }
 {
     let count = more.len() as u32;
     let Ok((words, pass)) = Words::make(alloc, limits_for(count)) else {
         return Err(ManyError::Memory);
     };
     let mut pass = pass;
-    let Ok(passes) = set_up(alloc, &words, &mut pass, count, plan.conns) else {
+    let slots = slots_for(count, plan);
+    let Ok(passes) = set_up(alloc, &words, &mut pass, count, slots) else {
         return Err(ManyError::Memory);
     };
-    let Ok((entries, exits)) = open_lines(alloc, more.len(), plan.conns as usize + 1) else {
+    let Ok((entries, exits)) = open_lines(alloc, more.len(), room_for(count, slots)) else {
         return Err(ManyError::Memory);
     };
     let outgoing = Outgoing {

@@ -4,9 +4,8 @@ ghost use Rattle.std.specs.Prelude.{◌≡◌, ◌+◌, ◌<◌, ◌≤◌, IfOk
 ghost use Rattle.nio_base.specs.Limits.{IsFit};
 ghost use Rattle.nio_board.specs.Called.{HasCalled};
 ghost use Rattle.nio_words.specs.Passes.{IsFirstPass, IsPassOf, IsReady, acts_seen, limits_of};
-ghost use Rattle.nio_reactor.specs.Placing.{caller, table_for};
+ghost use Rattle.nio_reactor.specs.Placing.{caller, deal_of, table_for};
 ghost use Rattle.nio_reactor.specs.Seats.{AreNewcomers, HaveDrawn, HaveSeats, IsNewcomer, IsSeat, acceptor_deal};
-ghost use Rattle.nio_reactor.specs.Seats.{deal_of};
 
 use crate::handed::LISTENER;
 use nio_base::{CallerNo, ChanId, ChanNo, Kind, Limits};
@@ -45,15 +44,15 @@ pub(crate) fn acceptor_share() -> Deal
     }
 }
 
-/// A worker's share of the table's channels, for so many connections of all workers.
-pub(crate) fn share_for(workers: u32, worker: u32, conns: u32) -> Deal
-    requires { (worker < 16) × (conns ≤ 16000) }
-    ensures { result ≡ deal_of workers worker conns }
+/// A worker's share of the table's channels, where all workers have so many slots.
+pub(crate) fn share_for(workers: u32, worker: u32, slots: u32) -> Deal
+    requires { (worker < 16) × (slots ≤ 16000) }
+    ensures { result ≡ deal_of workers worker slots }
 {
     Deal {
         workers,
         worker,
-        listener: ChanNo(2 * conns + 1 + worker),
+        listener: ChanNo(2 * slots + 1 + worker),
     }
 }
 
@@ -96,24 +95,24 @@ fn open_as(words: &Words, pass: &mut Pass, number: u32, kind: Kind) -> Result<()
     }
 }
 
-// The kind of the channel with this number: a link, where it is one of so many connections.
-fn kind_of(number: u32, conns: u32) -> Kind {
-    if number != 0 && (number - 1) / 2 < conns {
+// The kind of the channel with this number: a link, where it is one of so many slots.
+fn kind_of(number: u32, slots: u32) -> Kind {
+    if number != 0 && (number - 1) / 2 < slots {
         Kind::Stream
     } else {
         Kind::Listener
     }
 }
 
-// Opens the channels of the listener, of so many connections, and of the lines.
-fn open_channels(words: &Words, pass: &mut Pass, workers: u32, conns: u32) -> Result<(), AllocError>
-    requires few { (workers ≤ 15) × (conns ≤ 16000) }
+// Opens the first channels of the listener, of so many slots, and of the lines.
+fn open_channels(words: &Words, pass: &mut Pass, workers: u32, slots: u32) -> Result<(), AllocError>
+    requires few { (workers ≤ 15) × (slots ≤ 16000) }
     requires some { 0 < (limits_of words.now).callers }
     requires callers { AreNewcomers words.now pass.old (limits_of words.now).callers }
     ensures { AreNewcomers words.now pass.new (limits_of words.now).callers }
 {
-    for number in 0..2 * conns + 1 + workers {
-        open_as(words, pass, number, kind_of(number, conns))?;
+    for number in 0..2 * slots + 1 + workers {
+        open_as(words, pass, number, kind_of(number, slots))?;
     }
     Ok(())
 }
@@ -148,9 +147,9 @@ pub(crate) fn set_up(
     words: &Words,
     pass: &mut Pass,
     workers: u32,
-    conns: u32,
+    slots: u32,
 ) -> Result<Vec<Pass>, AllocError>
-    requires few { (workers ≤ 15) × (conns ≤ 16000) }
+    requires few { (workers ≤ 15) × (slots ≤ 16000) }
     requires limits { limits_of words.now ≡ table_for workers }
     requires first { IsFirstPass words.now pass.old }
     ensures acceptor { OnOk result (IsNewcomer words.now pass.new (caller 0)) }
@@ -159,7 +158,7 @@ pub(crate) fn set_up(
 {
     draw_all(words, pass)?;
     open_selectors(words, pass)?;
-    open_channels(words, pass, workers, conns)?;
+    open_channels(words, pass, workers, slots)?;
     hand_out(alloc, words, pass, workers)
 }
 
@@ -175,7 +174,7 @@ pub(crate) fn take_seat<'a>(
     requires { IsNewcomer words.now pass.old (caller number) }
     ensures none { IfNone result (IsReady words.now pass.new (caller number)) }
     ensures pass { IsPassOf words.now pass.new }
-    ensures seat { IfSome result (IsSeat words.now number deal 0) }
+    ensures seat { IfSome result (IsSeat words.now number deal) }
 {
     let me = CallerNo(number);
     let selector = find_selector(words, pass, me, number)?;
@@ -193,6 +192,6 @@ pub(crate) fn leave_seat(words: &Words, pass: &mut Pass, board: Board<'_>)
     ensures called { HasCalled (limits_of words.now) (acts_seen pass.new board.entry.caller) board.entry.deal
         board.entry.selector board.entry.registered }
 {
-    let (given, _registered) = board.into_pass();
+    let given = board.into_pass();
     words.join(pass, given);
 }

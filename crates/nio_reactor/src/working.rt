@@ -1,15 +1,16 @@
 //! The workers.
-ghost use Rattle.std.specs.Prelude.{◌≡◌, ◌≢◌, ◌+◌, ◌<◌, ◌≤◌, false, All, length};
+ghost use Rattle.std.specs.Prelude.{◌≡◌, ◌+◌, ◌<◌, ◌≤◌, false, All, length};
 ghost use Rattle.std.specs.Fork.{AcceptsEach, ChangesEach};
 ghost use Rattle.std.specs.Thread.{IsSend, IsSync};
 ghost use Rattle.nio_link.specs.Nets.{view_of};
 ghost use Rattle.nio_serve.specs.Serving.{IsFresh};
-ghost use Rattle.nio_reactor.specs.Dealing.{share};
+ghost use Rattle.nio_relay.specs.Plan.{IsServable};
+ghost use Rattle.nio_reactor.specs.Dealing.{share, slots_of};
 ghost use Rattle.nio_reactor.specs.Doors.{worker_at};
-ghost use Rattle.nio_reactor.specs.Placing.{caller};
+ghost use Rattle.nio_reactor.specs.Placing.{caller, deal_of};
 ghost use Rattle.nio_reactor.specs.Receiving.{HasReceived, HaveReceived, is_early};
-ghost use Rattle.nio_reactor.specs.Seats.{HaveSeats, IsNewcomer, LeaveSeats, LeavesSeat, channels_for, deal_of};
-ghost use Rattle.nio_reactor.specs.Working.{HasWorked, HaveWorked};
+ghost use Rattle.nio_reactor.specs.Seats.{HaveSeats, IsNewcomer, LeaveSeats, LeavesSeat, channels_for};
+ghost use Rattle.nio_reactor.specs.Working.{HasWorked, HaveWorked, clients_of};
 ghost use Rattle.nio_reactor.specs.declared.door.Door.TheVariants.{Unasked};
 
 use crate::by_line::ByLine;
@@ -29,20 +30,29 @@ use std::sync::Wait;
 use std::thread;
 use std::thread::Threads;
 
-/// How many connections of so many are for this worker.
-#[tactic(auto, using(crate::proofs::Dealing::share_mine, crate::proofs::Dealing::share_others))]
-pub(crate) fn share_of(workers: u32, worker: u32, conns: u32) -> u32
-    requires { workers ≢ 0 }
-    ensures exact { result ≡ share workers worker conns }
-    ensures few { result ≤ conns }
+/// How many connections, or slots, of so many are for this worker.
+#[tactic(auto, using(crate::proofs::Shares::share_one_more, crate::proofs::Shares::share_even))]
+pub(crate) fn share_of(workers: u32, worker: u32, count: u32) -> u32
+    requires { worker < workers }
+    ensures exact { result ≡ share workers worker count }
+    ensures few { result ≤ count }
 {
-    let mut count = 0;
-    for number in 0..conns {
-        if number % workers == worker {
-            count += 1;
-        }
+    let each = count / workers;
+    if worker < count % workers {
+        each + 1
+    } else {
+        each
     }
-    count
+}
+
+/// How many slots so many workers have together: as many as the plan can use, and no fewer than one each.
+pub(crate) fn slots_for(workers: u32, plan: ProxyPlan) -> u32
+    requires plan { IsServable plan }
+    requires workers { workers ≤ 15 }
+    ensures all { result ≡ slots_of workers plan }
+    ensures few { result ≤ 16000 }
+{
+    plan.slots().max(workers)
 }
 
 // Serves the connections that come on the line, so many, at the worker's seat. The plan listens at the line's address.
@@ -54,7 +64,7 @@ fn work_share<R: Wait, H: Wait, N: Passable, K: Lines<N::Link>, G: Gate>(
     plan: ProxyPlan,
     deal: Deal,
 ) -> Result<Served, ServeError>
-    requires conns { plan.conns ≤ 16000 }
+    requires slots { (1 ≤ plan.at_once) × (plan.at_once ≤ 16000) }
     requires one { deal.worker < 16 }
     requires fresh { IsFresh (view_of N.Net worker.old.lane.net) }
     requires door { worker.old.lane.door ≡ Unasked }
@@ -64,7 +74,8 @@ fn work_share<R: Wait, H: Wait, N: Passable, K: Lines<N::Link>, G: Gate>(
         worker.new.lane.put (is_early worker.new.lane.heard) result }
     ensures received { HasReceived (worker_at plan.listen) plan.conns worker.new.lane.line worker.new.lane.worker
         worker.new.lane.put result }
-    ensures leaves { LeavesSeat words.now (deal.worker + 1) deal (channels_for plan.conns) worker.new.pass result }
+    ensures leaves { LeavesSeat words.now (deal.worker + 1) deal (channels_for (clients_of worker.new.lane.put))
+        worker.new.pass result }
 {
     if plan.conns == 0 {
         return Ok(Served {
@@ -81,7 +92,7 @@ fn work_share<R: Wait, H: Wait, N: Passable, K: Lines<N::Link>, G: Gate>(
     outcome
 }
 
-// Is this worker, of so many: serves its share of the plan.
+// Is this worker, of so many: serves its share of the plan. Where it fails it lets the links go that still come.
 fn work<R: Wait, N: Passable, K: Lines<N::Link>, G: Gate>(
     rt: &R,
     words: &Words,
@@ -91,10 +102,9 @@ fn work<R: Wait, N: Passable, K: Lines<N::Link>, G: Gate>(
     number: u32,
     worker: &mut Worker<N, K>,
 )
-    requires workers { workers ≢ 0 }
+    requires plan { IsServable plan }
+    requires one { number < workers }
     requires few { workers < 16 }
-    requires one { number < 16 }
-    requires conns { plan.conns ≤ 16000 }
     requires fresh { IsFresh (view_of N.Net worker.old.lane.net) }
     requires door { worker.old.lane.door ≡ Unasked }
     requires on_time { is_early worker.old.lane.heard ≡ false }
@@ -103,18 +113,20 @@ fn work<R: Wait, N: Passable, K: Lines<N::Link>, G: Gate>(
         worker.new.lane.net worker.new.lane.put (is_early worker.new.lane.heard) worker.new.lane.outcome }
     ensures received { HasReceived number (share workers number plan.conns) worker.new.lane.line
         worker.new.lane.worker worker.new.lane.put worker.new.lane.outcome }
-    ensures leaves { LeavesSeat words.now (number + 1) (deal_of workers number plan.conns)
-        (channels_for (share workers number plan.conns)) worker.new.pass worker.new.lane.outcome }
+    ensures leaves { LeavesSeat words.now (number + 1) (deal_of workers number (slots_of workers plan))
+        (channels_for (clients_of worker.new.lane.put)) worker.new.pass worker.new.lane.outcome }
 {
     let mut way = ByLine::over(rt, gate, worker.lane.has_bell);
+    let slots = slots_for(workers, plan);
     let mine = ProxyPlan {
         listen: address_of(number),
         target: plan.target,
         conns: share_of(workers, number, plan.conns),
+        at_once: share_of(workers, number, slots),
     };
-    let deal = share_for(workers, number, plan.conns);
+    let deal = share_for(workers, number, slots);
     let outcome = work_share(rt, words, &mut way, worker, mine, deal);
-    worker.lane.outcome = outcome;
+    worker.lane.end(rt, number, outcome);
 }
 
 // Calls `work` at each element, in so many threads, while `accept` runs. Where no thread can be made, `accept` runs
@@ -159,8 +171,8 @@ pub(crate) fn work_all<
     workers: &mut [Worker<N, K>],
     accept: &mut A,
 ) -> Result<(), ManyError>
+    requires plan { IsServable plan }
     requires few { length workers.old ≤ 15 }
-    requires conns { plan.conns ≤ 16000 }
     requires fresh { All (λ x. IsFresh (view_of N.Net x.lane.net)) workers.old }
     requires doors { All (λ x. x.lane.door ≡ Unasked) workers.old }
     requires on_time { All (λ x. is_early x.lane.heard ≡ false) workers.old }
@@ -171,7 +183,8 @@ pub(crate) fn work_all<
         (λ x. is_early x.lane.heard) (λ x. x.lane.outcome) workers.old workers.new }
     ensures received { HaveReceived plan (λ x. x.lane.line) (λ x. x.lane.worker) (λ x. x.lane.put)
         (λ x. x.lane.outcome) workers.old workers.new }
-    ensures leaves { LeaveSeats words.now plan (λ x. x.pass) (λ x. x.lane.outcome) workers.old workers.new }
+    ensures leaves { LeaveSeats words.now plan (λ x. x.pass) (λ x. x.lane.put) (λ x. x.lane.outcome) workers.old
+        workers.new }
     ensures count { length workers.new ≡ length workers.old }
 {
     let threads = workers.len().max(1);
@@ -181,7 +194,7 @@ pub(crate) fn work_all<
         workers,
         threads,
         &|number, worker|
-            requires { (number < 16) × (count ≢ 0) × (count < 16) × (plan.conns ≤ 16000)
+            requires { (number < count) × (count < 16) × IsServable plan
                 × IsFresh (view_of N.Net worker.old.lane.net)
                 × (worker.old.lane.door ≡ Unasked) × (is_early worker.old.lane.heard ≡ false)
                 × IsNewcomer words.now worker.old.pass (caller (number + 1)) }
@@ -189,8 +202,8 @@ pub(crate) fn work_all<
                 worker.new.lane.net worker.new.lane.put (is_early worker.new.lane.heard) worker.new.lane.outcome
                 × HasReceived number (share count number plan.conns) worker.new.lane.line worker.new.lane.worker
                 worker.new.lane.put worker.new.lane.outcome
-                × LeavesSeat words.entry.now (number + 1) (deal_of count number plan.conns)
-                (channels_for (share count number plan.conns)) worker.new.pass
+                × LeavesSeat words.entry.now (number + 1) (deal_of count number (slots_of count plan))
+                (channels_for (clients_of worker.new.lane.put)) worker.new.pass
                 worker.new.lane.outcome }
         { work(rt, words, gate, plan, count, number as u32, worker) },
         accept,

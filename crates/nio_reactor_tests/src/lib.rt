@@ -13,3 +13,5 @@ mod nets;
 mod no_room;
 #[cfg(test)]
 mod relays;
+#[cfg(test)]
+mod slots;

@@ -77,6 +77,7 @@ fn relay<R: Threads + Wait + Sync>(
             port: target,
         },
         conns: CLIENTS as u32,
+        at_once: CLIENTS as u32,
     };
     let (mut net, _bell) = MioNet::make(system, alloc)?;
     let (mut more, bells) = nets_of(system, alloc)?;

@@ -7,10 +7,12 @@ ghost use Rattle.nio_serve.specs.Serving.{IsFresh};
 
 use crate::no_room::Roomy;
 use nio_base::{Addr, Gate};
+use nio_board::Direct;
 use nio_link::{MemoryNet, NetPlan, Passable, PeerPlan};
 use nio_poller::{Bell, NoBell};
 use nio_reactor::{ManyError, serve_many};
 use nio_relay::{ProxyPlan, Served};
+use nio_serve::{ServeError, serve};
 use nio_trace::Trace;
 use nio_words::Pass;
 use std::alloc::{AllocError, Global};
@@ -208,7 +210,7 @@ pub(crate) struct Relayed {
     pub more: Vec<Roomy<MemoryNet>>,
 }
 
-/// Serves these connections by so many workers.
+/// Serves these connections by so many workers, 16 at once.
 pub(crate) fn serves<R: Threads + Wait + Sync, G: Gate + Sync>(
     rt: &R,
     alloc: Global,
@@ -217,10 +219,24 @@ pub(crate) fn serves<R: Threads + Wait + Sync, G: Gate + Sync>(
     workers: usize,
     gate: &G,
 ) -> Result<Relayed, AllocError> {
+    serves_by(rt, alloc, peers, failures, workers, 16, gate)
+}
+
+/// Serves these connections by so many workers, so many at once.
+pub(crate) fn serves_by<R: Threads + Wait + Sync, G: Gate + Sync>(
+    rt: &R,
+    alloc: Global,
+    peers: &[Peer],
+    failures: Failures,
+    workers: usize,
+    at_once: u32,
+    gate: &G,
+) -> Result<Relayed, AllocError> {
     let plan = ProxyPlan {
         listen: ANYWHERE,
         target: ANYWHERE,
-        conns: peers.len().saturating_add(failures.absent).clamp(1, 16) as u32,
+        conns: peers.len().saturating_add(failures.absent).clamp(1, 1_000) as u32,
+        at_once: at_once.clamp(1, 16_000),
     };
     let mut net = net_of(
         alloc,
@@ -238,4 +254,21 @@ pub(crate) fn serves<R: Threads + Wait + Sync, G: Gate + Sync>(
         net,
         more,
     })
+}
+
+/// Serves these connections by one loop, so many at once.
+pub(crate) fn serves_alone<R: Wait>(
+    rt: &R,
+    alloc: Global,
+    peers: &[Peer],
+    at_once: u32,
+) -> Result<Result<Served, ServeError>, AllocError> {
+    let plan = ProxyPlan {
+        listen: ANYWHERE,
+        target: ANYWHERE,
+        conns: peers.len().clamp(1, 100_000) as u32,
+        at_once: at_once.clamp(1, 16_000),
+    };
+    let mut made = net_of(alloc, peers, None, None)?;
+    Ok(serve(rt, alloc, &mut Direct, &mut made.net, plan))
 }

@@ -5,7 +5,7 @@
 
 pub use direction::{CAPACITY, Direction, Want};
 pub use law::{connection_law, relay_law};
-pub use plan::{PacketPlan, ProxyPlan, Served};
+pub use plan::{MOST_AT_ONCE, PacketPlan, ProxyPlan, Served};
 
 mod direction;
 mod law;

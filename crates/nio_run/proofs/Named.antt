@@ -3,7 +3,7 @@ use Rattle.std.proofs.Common.{◌≡◌, ◌≢◌, ◌⊎◌, inl, inr, ℕ, Op
 use Rattle.std.proofs.Common.{slice_index_or, refl, sym, ap, ◌∙◌, ◌≤◌, arith}
 use Rattle.nio_command.specs.Options.{Text}
 use Rattle.nio_command.specs.Words.{AsksForWay, AsksForWorkers, BeginsPackets, BeginsProxy, HasOptions}
-use Rattle.nio_command.specs.Words.{IsPacketsCommand}
+use Rattle.nio_command.specs.Words.{IsInRange, IsPacketsCommand}
 use Rattle.nio_command.specs.Words.{IsProxyCommand}
 use Rattle.nio_relay.specs.declared.plan.PacketPlan.{PacketPlan}
 use Rattle.nio_command.specs.declared.command.Command.{Command}
@@ -13,13 +13,14 @@ use Rattle.nio_command.specs.declared.command.WordsError.TheVariants.{Usage, Mem
 use Rattle.nio_command.specs.declared.way.ProxyWay.{ProxyWay}
 use Rattle.nio_command.specs.declared.way.ProxyWay.TheVariants.{Select, Group, Future, Many}
 use Rattle.nio_bytes.specs.declared.source.Source as source
+use Rattle.nio_jobs.specs.Plans.{HasSlotForEach}
 use Rattle.nio_relay.specs.Plan.{IsServable}
 use Rattle.nio_relay.specs.declared.plan.ProxyPlan.{ProxyPlan}
 use Rattle.nio_script.specs.Input.{StopsPastLongest}
 use Rattle.nio_script.specs.declared.status.Status.{Status}
 use Rattle.nio_script.specs.declared.status.Status.TheVariants.{TooLong}
 use Rattle.std.specs.Io.KnownBytes.{prepend_known}
-use Rattle.nio_run.specs.Proxy.{HasOneNet, HasWorkers}
+use Rattle.nio_run.specs.Proxy.{HasOneNet, HasWorkers, IsServableBy}
 
 abbrev first_byte : List (List ℕ) → ℕ
 first_byte words = slice_index_or (slice_index_or words 0 []) 0 0
@@ -71,9 +72,29 @@ not_many words x p (Many workers) is says none =
 
 -- the plan that the words say can be served
 pub its_servable : (words : List (List ℕ)) (p : ProxyPlan) (w : ProxyWay) → IsProxyCommand words p w
-    → IsServable p × HasWorkers w
-its_servable words p w says = (says.asks.in_range.connections, by_way w says.asks.by_way)
+    → IsServableBy w p × HasWorkers w
+its_servable words p w says = (by_plan w says.asks.in_range, by_way w says.asks.by_way)
   where
+    by_range : (v : ProxyWay) → IsInRange p v → p.conns ≤ 4294967295 → IsServable p
+    by_range v h few = record {
+      some_connections = h.some_connections;
+      few_connections = few;
+      some_at_once = omega (arith, h.at_once);
+      few_at_once = omega (arith, h.at_once);
+    }
+
+    by_slots : (v : ProxyWay) → IsInRange p v → p.conns ≤ 16000 → HasSlotForEach p
+    by_slots v h few = record {
+      servable = by_range v h (omega (arith, few));
+      each = omega (arith, few, h.at_once);
+    }
+
+    by_plan : (v : ProxyWay) → IsInRange p v → IsServableBy v p
+    by_plan Select h = by_range Select h h.few_connections
+    by_plan (Group count) h = by_slots (Group count) h h.few_connections
+    by_plan Future h = by_slots Future h h.few_connections
+    by_plan (Many count) h = by_range (Many count) h h.few_connections
+
     by_workers : (most : ℕ) (o : Option Text) (count : ℕ) → 4 ≤ most → AsksForWorkers most o count
         → (1 ≤ count) × (count ≤ most)
     by_workers most None count four h = (omega (arith, h), omega (arith, h, four))
@@ -101,7 +122,7 @@ begins_proxy words x p w is says = let it : IsProxyCommand words p w = says p w 
 -- the way of a command has workers
 pub its_workers : (x : Command) (p : ProxyPlan) (w : ProxyWay) → x ≡ Proxy p w
     → ((q : ProxyPlan) (v : ProxyWay) → ◌≡◌ {A = Result Command WordsError} (Ok x) (Ok (Proxy q v))
-    → IsServable q × HasWorkers v)
+    → IsServableBy v q × HasWorkers v)
     → HasWorkers w
 its_workers x p w is says = (says p w (ap (λ (y : Command). Ok y) is)).1
 

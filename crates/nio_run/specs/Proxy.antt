@@ -5,6 +5,8 @@ use Rattle.nio_bytes.specs.declared.sink.Sink as sink
 use Rattle.nio_command.specs.declared.way.ProxyWay.{ProxyWay}
 use Rattle.nio_command.specs.declared.way.ProxyWay.TheVariants.{Select, Group, Future, Many}
 use Rattle.nio_link.specs.Nets.{NetView}
+use Rattle.nio_jobs.specs.Plans.{HasSlotForEach}
+use Rattle.nio_relay.specs.Plan.{IsServable}
 use Rattle.nio_relay.specs.declared.plan.ProxyPlan.{ProxyPlan}
 use Rattle.nio_relay.specs.declared.plan.Served.{Served}
 use Rattle.nio_serve.specs.Serving.{Serves}
@@ -13,6 +15,13 @@ use Rattle.nio_serve.specs.declared.serving.ServeError.TheVariants as error
 use Rattle.nio_script.specs.declared.status.Status.{Status}
 use Rattle.nio_script.specs.declared.status.Status.TheVariants.{Memory, NetFault}
 use Rattle.nio_run.specs.Relays.{SaysLine}
+
+-- which plans each way can serve
+abbrev pub IsServableBy : ProxyWay → ProxyPlan → Type 0
+IsServableBy Select plan = IsServable plan
+IsServableBy (Group count) plan = HasSlotForEach plan
+IsServableBy Future plan = HasSlotForEach plan
+IsServableBy (Many count) plan = IsServable plan
 
 -- a group has from 1 to 64 workers, and `many` from 1 to 15
 abbrev pub HasWorkers : ProxyWay → Type 0

@@ -2,10 +2,9 @@
 ghost use Rattle.std.specs.Prelude.{◌≡◌, ◌≤◌, ℕ, All};
 ghost use Rattle.nio_bytes.specs.Cause.{Rose};
 ghost use Rattle.nio_link.specs.Nets.{view_of};
-ghost use Rattle.nio_relay.specs.Plan.{IsServable};
 ghost use Rattle.nio_serve.specs.Serving.{IsFresh};
 ghost use Rattle.nio_run.specs.Many.{DoesMany};
-ghost use Rattle.nio_run.specs.Proxy.{DoesProxy, HasOneNet, HasWorkers, SaysOutcome, served_line};
+ghost use Rattle.nio_run.specs.Proxy.{DoesProxy, HasOneNet, HasWorkers, IsServableBy, SaysOutcome, served_line};
 ghost use Rattle.nio_run.specs.Relays.{EndsRelay, SaysLine};
 ghost use Rattle.nio_tickets.specs.Answers.{serve_answer_of};
 
@@ -43,7 +42,7 @@ pub fn serve<R, K: Sink, N: Passable + Send + Drop, B: Bell + Sync + Drop, G: Ga
 ) -> Ended<N>
 where
     R: Threads + Wait + RandomSource + AllocGlobal + Sync,
-    requires plan { IsServable plan }
+    requires plan { IsServableBy way plan }
     requires way { HasWorkers way }
     requires fresh { IsFresh (view_of N.Net net) }
     requires more { All (λ x. IsFresh (view_of N.Net x)) more.old.items }

@@ -6,9 +6,8 @@ ghost use Rattle.nio_command.specs.Words.{HasOptions, IsLoadCommand, IsPacketsCo
 ghost use Rattle.nio_command.specs.Words.{SaysNothing};
 ghost use Rattle.nio_relay.specs.Plan.{IsRelayable};
 ghost use Rattle.nio_relay.specs.declared.plan.PacketPlan.{PacketPlan};
-ghost use Rattle.nio_relay.specs.Plan.{IsServable};
 ghost use Rattle.nio_relay.specs.declared.plan.ProxyPlan.{ProxyPlan};
-ghost use Rattle.nio_run.specs.Proxy.{HasWorkers};
+ghost use Rattle.nio_run.specs.Proxy.{HasWorkers, IsServableBy};
 
 use nio_command::{Command, ProxyWay, WordsError, command_of};
 use std::alloc::{AllocError, Global};
@@ -27,7 +26,7 @@ pub fn named(alloc: Global, words: &[String]) -> Result<Command, WordsError>
     ensures proxy_only { (plan : ProxyPlan) (way : ProxyWay) → IsProxyCommand (map string_bytes words.now) plan way
         → (result ≡ Ok (Command.Proxy plan way)) ⊎ (result ≡ Err WordsError.Memory) }
     ensures servable { (plan : ProxyPlan) (way : ProxyWay) → result ≡ Ok (Command.Proxy plan way)
-        → IsServable plan × HasWorkers way }
+        → IsServableBy way plan × HasWorkers way }
     ensures packets { (plan : PacketPlan) → result ≡ Ok (Command.Packets plan)
         → IsPacketsCommand (map string_bytes words.now) plan }
     ensures packets_only { (plan : PacketPlan) → IsPacketsCommand (map string_bytes words.now) plan

@@ -9,9 +9,9 @@ use Rattle.nio_relay.specs.Flow.{Flow, IsLawful}
 use Rattle.nio_serve.proofs.Watching.{where_done}
 use Rattle.nio_serve.specs.Relaying.{IsEnd, IsTarget, SameSink, SameSource, carried, open_or_shut}
 use Rattle.nio_serve.specs.Serving.{HasCarried}
-use Rattle.nio_serve.specs.Slots.{IsLive, IsRelaying}
-use Rattle.nio_serve.specs.declared.slot.Stage.{Stage}
-use Rattle.nio_serve.specs.declared.slot.Stage.TheVariants as stage
+use Rattle.nio_serve.specs.Statuses.{IsLive, IsRelaying}
+use Rattle.nio_serve.specs.declared.relay.Stage.{Stage}
+use Rattle.nio_serve.specs.declared.relay.Stage.TheVariants as stage
 
 open_gone : (b : Bool) → closed (open_or_shut b) ≡ Gone
 open_gone true = refl

@@ -1,19 +1,19 @@
 -- What the proxy promises, from what stands of its connections.
-use Rattle.std.proofs.Common.{◌≡◌, ◌≢◌, ℕ, ◌+◌, ◌-◌, ◌*◌, ◌/◌, ◌<◌, ◌≤◌, ◌⊎◌, inl, inr, Bool, true, false}
-use Rattle.std.proofs.Common.{IsTrue, IsFalse, Option, Some, None, IsSome, Result, Ok, Err, is_err, List, [], ◌++◌}
-use Rattle.std.proofs.Common.{length, slice_get, slice_index_or, vec_capacity, refl, sym, ap, subst, ◌∙◌, arith}
-use Rattle.std.specs.Prelude.{All}
-use Rattle.std.proofs.lemmas.Bool.{cases_eq, cases_lt, cases_order, false_from_ne_true}
-use Rattle.std.proofs.lemmas.List.{append-nil}
-use Rattle.std.proofs.lemmas.List.Elements.{All-nil}
-use Rattle.std.proofs.lemmas.Option.{slice_get_cases, slice_get_past}
+use Rattle.std.proofs.Common.{◌≡◌, ◌≢◌, ℕ, ◌+◌, ◌-◌, ◌<◌, ◌≤◌, ◌⊎◌, inl, inr, Bool, true, false, IsTrue, IsFalse}
+use Rattle.std.proofs.Common.{Option, Some, None, IsSome, is_some, Result, Ok, Err, is_err, List, [], ◌∷◌, ◌++◌, length}
+use Rattle.std.proofs.Common.{slice_get, slice_index_or, refl, sym, ap, subst, ◌∙◌, arith, length-append}
+use Rattle.std.specs.Prelude.{All, Contains}
+use mathlib.Core.List.{IsPrefix}
+use Rattle.std.proofs.lemmas.Bool.{cases_eq, cases_order, false_from_ne_true}
+use Rattle.std.proofs.lemmas.List.{append-nil, append_cancel_left}
+use Rattle.std.proofs.lemmas.List.Elements.{All-contains, All-nil}
 use Rattle.nio_base.specs.declared.numbers.Addr.{Addr}
 use Rattle.nio_base.specs.declared.numbers.ChanId.{ChanId}
 use Rattle.nio_bytes.specs.Cause.{Rose}
-use Rattle.nio_link.proofs.Channels.{all_same, chan_as, channel_as, channel_is_or_not}
+use Rattle.nio_link.proofs.Channels.{all_same, channel_is_or_not}
 use Rattle.nio_link.specs.Links.{Link, IsUnused, IsSameBut}
 use Rattle.nio_link.specs.Nets.{Members, NetView, Listens, view_of}
-use Rattle.nio_link.specs.Places.{never_asked, IsVacant, place_after_close, place_after_listen}
+use Rattle.nio_link.specs.Places.{channel, never_asked, IsVacant, place_after_close, place_after_listen}
 use Rattle.nio_link.specs.declared.net.Failed.{Failed}
 use Rattle.nio_link.specs.declared.place.Place.{Place}
 use Rattle.nio_link.specs.declared.place.Role.{Role}
@@ -26,28 +26,34 @@ use Rattle.nio_relay.specs.Flow.{Flow, IsLawful}
 use Rattle.nio_relay.specs.declared.plan.ProxyPlan.{ProxyPlan}
 use Rattle.nio_relay.specs.declared.plan.Served.{Served}
 use Rattle.nio_board.specs.declared.board.Port.{Port}
+use Rattle.nio_serve.specs.Changes.{AreUnbegun}
 use Rattle.nio_serve.specs.Nets.{IsQuiet, OnlyCloses}
 use Rattle.nio_serve.specs.Relaying.{carried, target_role}
 use Rattle.nio_serve.specs.Serving.{IsFresh, HaveCarried, AreRelayed, WasRelayed, WasClean, IsAtMost, IsUntouched}
 use Rattle.nio_serve.specs.Serving.{LeavesNothing, WasBegun, HasFaulted, IsUnfaulted, HasServed, Answers, NoneRose}
-use Rattle.nio_serve.specs.Serving.{ServesAllOr, Serves, listener, target_of}
-use Rattle.nio_serve.specs.Slots.{HasEnded, IsBroken, IsLive, IsSlot, IsSlotOf, IsUnbegun, HasRoles, AreServed}
-use Rattle.nio_serve.specs.Slots.{ListensAt, Serving, has_ended, has_faulted, client_at, target_at, clients_below}
-use Rattle.nio_serve.specs.Slots.{count_below}
+use Rattle.nio_serve.specs.Serving.{ServesAllOr, Serves, listener, run_channels, target_of}
+use Rattle.nio_serve.specs.Slots.{AreClosed, AreServed, AreUntouched, IsClient, ListensAt, Serving, StandsAs}
+use Rattle.nio_serve.specs.Slots.{client_at, status_at, status_of, target_at}
+use Rattle.nio_serve.specs.Statuses.{HasEnded, HasRoles, IsBroken, IsLive, IsStatus, has_ended, has_faulted}
+use Rattle.nio_serve.specs.Watching.{HasRegisteredAll, HasRegisteredSome}
 use Rattle.nio_serve.specs.declared.connections.Connections.{Connections}
+use Rattle.nio_serve.specs.declared.relay.Ended.TheVariants.{Clean, Faulted, Dropped}
+use Rattle.nio_serve.specs.declared.relay.Relay.{Relay}
+use Rattle.nio_serve.specs.declared.relay.Stage.{Stage}
+use Rattle.nio_serve.specs.declared.relay.Stage.TheVariants as stage
+use Rattle.nio_serve.specs.Statuses.{Status}
+use Rattle.nio_serve.specs.Statuses.{Live, Over}
 use Rattle.nio_serve.specs.declared.serving.ServeError.{ServeError}
 use Rattle.nio_serve.specs.declared.serving.ServeError.TheVariants.{NetFault, Memory}
 use Rattle.nio_serve.specs.declared.slot.Slot.{Slot}
-use Rattle.nio_serve.specs.declared.slot.Slot.TheVariants.{Live, Clean, Faulted, Dropped}
-use Rattle.nio_serve.specs.declared.slot.Stage.{Stage}
-use Rattle.nio_serve.specs.declared.slot.Stage.TheVariants as stage
 use Rattle.nio_serve.proofs.Begun.{unused_relayed}
-use Rattle.nio_serve.proofs.Clients.{all_below, apart_below, count_nobody, count_numbers, index_at, index_of, length_below}
-use Rattle.nio_serve.proofs.Clients.{not_below, not_listener}
-use Rattle.nio_serve.proofs.Counts.{count_all, count_none}
+use Rattle.nio_serve.proofs.Clients.{a_client, a_target, all_clients, not_client, not_listener, run_apart, the_first}
+use Rattle.nio_serve.proofs.Clients.{whose}
+use Rattle.nio_serve.proofs.Counts.{count_all, count_few, count_none}
 use Rattle.nio_serve.proofs.Ends.{end_gone, target_carried}
-use Rattle.nio_serve.proofs.Slotting.{faulted_from, client_listener, later_listener, target_listener, untouched_as}
-use Rattle.nio_serve.proofs.Watching.{all_begun}
+use Rattle.nio_serve.proofs.Idle.{counted_of, none_first, slots_first}
+use Rattle.nio_serve.proofs.Slotting.{faulted_from, none_live, over_vacant, status_by, untouched_as}
+use Rattle.nio_serve.proofs.Statuses.{client_listener, past_of, serial_of, status_over, statuses_live, target_listener}
 use Rattle.nio_serve.proofs.Working.{gone_stays, later_all, quiet_then, role_stays, rose_from, vacant_stays}
 
 -- ---- bytes
@@ -136,12 +142,11 @@ module _ (made : Stage) (there back : Flow) (c0 c1 t0 t1 : Link) (p0 p1 q0 q1 : 
         target_closed = target;
       }
 
-slot_relayed : (slot : Option Slot) (client target : Link) (p q : Place) → IsSlot slot client target p q
+status_relayed : (status : Status) (client target : Link) (p q : Place) → IsStatus status client target p q
     → HaveCarried AreRelayed client target
-slot_relayed None client target p q is = unused_relayed client target is.client_unused is.target_unused
-slot_relayed (Some (Live relay)) client target p q is =
+status_relayed (Live relay) client target p q is =
     live_relayed relay.stage relay.there relay.back client target p q is
-slot_relayed (Some Clean) client target p q is = record {
+status_relayed (Over Clean) client target p q is = record {
   of_client = is.carried.of_client;
   of_target = is.carried.of_target;
   by_client = is.carried.by_client;
@@ -151,34 +156,27 @@ slot_relayed (Some Clean) client target p q is = record {
     whole_relayed is.carried.of_target is.carried.of_client is.carried.related.back,
   );
 }
-slot_relayed (Some Faulted) client target p q is = is.carried
-slot_relayed (Some Dropped) client target p q is = unused_relayed client target is.client_unused is.target_unused
+status_relayed (Over Faulted) client target p q is = is.carried
+status_relayed (Over Dropped) client target p q is = unused_relayed client target is.client_unused is.target_unused
 
-slot_clean : (slot : Option Slot) (client target : Link) (p q : Place) → IsTrue (has_ended slot)
-    → IsFalse (has_faulted slot) → IsSlot slot client target p q → HaveCarried IsClean client target
-slot_clean None client target p q ended clean is = cc
-slot_clean (Some (Live relay)) client target p q ended clean is = cc
-slot_clean (Some Clean) client target p q ended clean is = is.carried
-slot_clean (Some Faulted) client target p q ended clean is = cc
-slot_clean (Some Dropped) client target p q ended clean is = cc
+-- of a connection that has ended without a fault
+stands_clean : (to : Addr) (o : Option Status) (client target : Link) (p q : Place) → IsTrue (has_ended o)
+    → IsFalse (has_faulted o) → StandsAs to o client target p q → HaveCarried IsClean client target
+stands_clean to None client target p q ended clean is = absurd (cc)
+stands_clean to (Some (Live relay)) client target p q ended clean is = absurd (cc)
+stands_clean to (Some (Over Clean)) client target p q ended clean is = is.is_status.carried
+stands_clean to (Some (Over Faulted)) client target p q ended clean is = absurd (cc)
+stands_clean to (Some (Over Dropped)) client target p q ended clean is = absurd (cc)
 
 -- ---- places
 
-pub slot_vacant : (slot : Option Slot) (client target : Link) (p q : Place) → IsTrue (has_ended slot)
-    → IsSlot slot client target p q → IsVacant p.standing × IsVacant q.standing
-slot_vacant None client target p q ended is = absurd (cc)
-slot_vacant (Some (Live relay)) client target p q ended is = absurd (cc)
-slot_vacant (Some Clean) client target p q ended is = (subst IsVacant (sym is.client_closed) tt, is.target_closed)
-slot_vacant (Some Faulted) client target p q ended is = (subst IsVacant (sym is.client_closed) tt, is.target_closed)
-slot_vacant (Some Dropped) client target p q ended is = absurd (cc)
-
-slot_gone : (slot : Option Slot) (client target : Link) (p q : Place) → IsTrue (has_ended slot)
-    → IsSlot slot client target p q → p.standing ≡ Gone
-slot_gone None client target p q ended is = absurd (cc)
-slot_gone (Some (Live relay)) client target p q ended is = absurd (cc)
-slot_gone (Some Clean) client target p q ended is = is.client_closed
-slot_gone (Some Faulted) client target p q ended is = is.client_closed
-slot_gone (Some Dropped) client target p q ended is = absurd (cc)
+stands_gone : (to : Addr) (o : Option Status) (client target : Link) (p q : Place) → IsTrue (has_ended o)
+    → StandsAs to o client target p q → p.standing ≡ Gone
+stands_gone to None client target p q ended is = absurd (cc)
+stands_gone to (Some (Live relay)) client target p q ended is = absurd (cc)
+stands_gone to (Some (Over Clean)) client target p q ended is = is.is_status.client_closed
+stands_gone to (Some (Over Faulted)) client target p q ended is = is.is_status.client_closed
+stands_gone to (Some (Over Dropped)) client target p q ended is = absurd (cc)
 
 pub place_as : (p : Place) (r : Role) (s : Standing) → p.role ≡ r → p.standing ≡ s
     → p ≡ record { role = r; standing = s }
@@ -191,156 +189,127 @@ role_at_most stage.Accepted to = inl refl
 role_at_most stage.Connecting to = inr refl
 role_at_most stage.Connected to = inr refl
 
--- the roles of a connection that was begun
-roles_begun : (to : Addr) (slot : Slot) (r s : Role) → HasRoles to (Some slot) r s
+-- the roles of a connection that began
+roles_begun : (to : Addr) (status : Status) (r s : Role) → HasRoles to status r s
     → (r ≡ role.Accepted listener) × IsAtMost (role.Connected to) s
 roles_begun to (Live relay) r s has =
     (has.0, subst (IsAtMost (role.Connected to)) (sym has.1) (role_at_most relay.stage to))
-roles_begun to Clean r s has = (has.0, inr has.1)
-roles_begun to Faulted r s has = (has.0, inr has.1)
-roles_begun to Dropped r s has = (has.0, inl has.1)
+roles_begun to (Over Clean) r s has = (has.0, inr has.1)
+roles_begun to (Over Faulted) r s has = (has.0, inr has.1)
+roles_begun to (Over Dropped) r s has = (has.0, inl has.1)
 
-roles_within : (to : Addr) (slots : List Slot) (k : ℕ) (r s : Role) → k < length slots
-    → HasRoles to (slice_get slots k) r s → (r ≡ role.Accepted listener) × IsAtMost (role.Connected to) s
-roles_within to slots k r s few has = elim (slice_get_cases slots k).1 [
-  | inl there ↦ roles_begun to there.0 r s (subst (λ o. HasRoles to o r s) there.2 has)
-  | inr past ↦ absurd (omega (arith, past.0))
-]
+stands_roles : (to : Addr) (o : Option Status) (client target : Link) (p q : Place) → IsSome o
+    → StandsAs to o client target p q → (p.role ≡ role.Accepted listener) × IsAtMost (role.Connected to) q.role
+stands_roles to None client target p q some is = absurd (cc)
+stands_roles to (Some status) client target p q some is = roles_begun to status p.role q.role is.roles
 
-roles_ended : (to : Addr) (slot : Option Slot) (r s : Role) → IsTrue (has_ended slot) → HasRoles to slot r s
-    → (r ≡ role.Accepted listener) × (s ≡ role.Connected to)
-roles_ended to None r s ended has = absurd (cc)
-roles_ended to (Some (Live relay)) r s ended has = absurd (cc)
-roles_ended to (Some Clean) r s ended has = has
-roles_ended to (Some Faulted) r s ended has = has
-roles_ended to (Some Dropped) r s ended has = absurd (cc)
+roles_ended : (to : Addr) (o : Option Status) (client target : Link) (p q : Place) → IsTrue (has_ended o)
+    → StandsAs to o client target p q → (p.role ≡ role.Accepted listener) × (q.role ≡ role.Connected to)
+roles_ended to None client target p q ended is = absurd (cc)
+roles_ended to (Some (Live relay)) client target p q ended is = absurd (cc)
+roles_ended to (Some (Over Clean)) client target p q ended is = is.roles
+roles_ended to (Some (Over Faulted)) client target p q ended is = is.roles
+roles_ended to (Some (Over Dropped)) client target p q ended is = absurd (cc)
+
+stands_relayed : (to : Addr) (o : Option Status) (client target : Link) (p q : Place) → StandsAs to o client target p q
+    → HaveCarried AreRelayed client target
+stands_relayed to None client target p q is = unused_relayed client target is.client.no_bytes is.target.no_bytes
+stands_relayed to (Some status) client target p q is = status_relayed status client target p q is.is_status
 
 -- ---- channels
 
--- each channel is the listener's, or one of the two of a connection, or has a later serial
-pub data Whose (c : ChanId) : Type 0 where
-  the_listener : c ≡ listener → Whose c
-  a_client : (k : ℕ) → c ≡ client_at k → Whose c
-  a_target : (k : ℕ) → c ≡ target_at k → Whose c
-  a_later : 1 ≤ c.serial → Whose c
-
-parity : (n : ℕ) → 1 ≤ n → (n ≡ 2 * ((n - 1) / 2) + 1) ⊎ (n ≡ 2 * ((n - 1) / 2) + 1 + 1)
-parity n some = grind arith
-
-pub whose : (c : ChanId) → Whose c
-whose c = elim (cases_eq c.serial 0) [
-  | inl first ↦ elim (cases_eq c.number.0 0) [
-    | inl none ↦ the_listener (channel_as c listener (chan_as c.number listener.number none) first)
-    | inr other ↦
-        let k = (c.number.0 - 1) / 2 in
-        elim (parity c.number.0 (nonzero c.number.0 other)) [
-          | inl odd ↦ a_client k
-              (channel_as c (client_at k) (chan_as c.number (client_at k).number odd) first)
-          | inr even ↦ a_target k
-              (channel_as c (target_at k) (chan_as c.number (target_at k).number even) first)
-        ]
+-- a channel that is none of a run's
+pub untouched_else : (link : ChanId → Link) (place : ChanId → Place) (c : Connections) → AreServed link place c
+    → (x : ChanId) → All (λ own. x ≢ own) (run_channels c.clients) → IsUntouched (link x) (place x)
+untouched_else link place c served x none = elim (whose x) [
+  | the_first s at ↦ elim (cases_eq s 0) [
+    | inl first ↦ absurd (not_listener x c.clients none (at ∙ ap (channel listener.number) first))
+    | inr later ↦ untouched_as (ap link at) (ap place at) (served.later s (omega (arith, later)))
   ]
-  | inr other ↦ a_later (nonzero c.serial other)
+  | a_client j s at ↦ untouched_as (ap link at) (ap place at)
+      (by_status j s (status_at c.slots.items j s) refl (λ has. (not_client x c.clients none (client_at j s) has).0 at)).client
+  | a_target j s at ↦ untouched_as (ap link at) (ap place at)
+      (by_status j s (status_at c.slots.items j s) refl (λ has. (not_client x c.clients none (client_at j s) has).1 at)).target
 ]
   where
-    nonzero : (n : ℕ) → n ≢ 0 → 1 ≤ n
-    nonzero n other = omega arith
-
--- a connection that wasn't begun
-module _ (link : ChanId → Link) (place : ChanId → Place) (c : Connections) (served : AreServed link place c) where
-  unbegun_past : (k : ℕ) → length c.slots.items ≤ k
-      → IsUnbegun (link (client_at k)) (link (target_at k)) (place (client_at k)) (place (target_at k))
-  unbegun_past k past =
-      subst (λ s. IsSlot s (link (client_at k)) (link (target_at k)) (place (client_at k)) (place (target_at k)))
-      (slice_get_past c.slots.items k past) (served.slots k).is_slot
-
-  -- a channel that is none of a run's
-  untouched_else : (x : ChanId) → x ≢ listener
-      → ((k : ℕ) → k < length c.slots.items → (x ≢ client_at k) × (x ≢ target_at k)) → IsUntouched (link x) (place x)
-  untouched_else x apart others = elim (whose x) [
-    | the_listener at ↦ absurd (apart at)
-    | a_client k at ↦ elim (cases_lt k (length c.slots.items)) [
-      | inl few ↦ absurd ((others k few).0 at)
-      | inr past ↦
-          let none = unbegun_past k past in
-          untouched_as (ap link at) (ap place at)
-          (record { no_bytes = none.client_unused; unasked = none.client_unasked })
-    ]
-    | a_target k at ↦ elim (cases_lt k (length c.slots.items)) [
-      | inl few ↦ absurd ((others k few).1 at)
-      | inr past ↦
-          let none = unbegun_past k past in
-          untouched_as (ap link at) (ap place at)
-          (record { no_bytes = none.target_unused; unasked = none.target_unasked })
-    ]
-    | a_later late ↦ served.later x late
-  ]
+    by_status : (j s : ℕ) (o : Option Status) → status_at c.slots.items j s ≡ o
+        → (Contains c.clients (client_at j s) → ⊥)
+        → AreUntouched (link (client_at j s)) (link (target_at j s)) (place (client_at j s)) (place (target_at j s))
+    by_status j s None is other =
+        subst
+        (λ o. StandsAs c.target o (link (client_at j s)) (link (target_at j s)) (place (client_at j s))
+        (place (target_at j s))) is (served.connections j s)
+    by_status j s (Some status) is other = absurd (other (served.known j s (subst IsSome (sym is) refl)))
 
 -- ---- closing what is open
 
--- where the channels of the connections that were begun are closed, and the listener is, nothing stands
+vacant_unused : (p q : Place) → OnlyCloses p q → p ≡ never_asked → IsVacant q.standing
+vacant_unused p q closes is = vacant_stays p q closes (subst (λ (u : Place). IsVacant u.standing) (sym is) tt)
+
+-- where the channels of all connections are closed, and the listener is, nothing stands
 pub all_vacant : (link : ChanId → Link) (p0 p1 p2 : ChanId → Place) (c : Connections) → AreServed link p0 c
     → ((x : ChanId) → OnlyCloses (p0 x) (p1 x)) → ((x : ChanId) → OnlyCloses (p1 x) (p2 x))
-    → ((k : ℕ) → k < length c.slots.items → IsVacant (p1 (client_at k)).standing × IsVacant (p1 (target_at k)).standing)
-    → IsVacant (p2 listener).standing → (x : ChanId) → IsVacant (p2 x).standing
+    → ((j s : ℕ) → AreClosed j s p1) → IsVacant (p2 listener).standing → (x : ChanId) → IsVacant (p2 x).standing
 all_vacant link p0 p1 p2 c served first second closed listens x = elim (whose x) [
-  | the_listener at ↦ subst (λ y. IsVacant (p2 y).standing) (sym at) listens
-  | a_client k at ↦ vacant_stays (p1 x) (p2 x) (second x) (subst (λ y. IsVacant (p1 y).standing) (sym at) (both k).0)
-  | a_target k at ↦ vacant_stays (p1 x) (p2 x) (second x) (subst (λ y. IsVacant (p1 y).standing) (sym at) (both k).1)
-  | a_later late ↦ vacant_stays (p1 x) (p2 x) (second x)
-      (vacant_unused (p0 x) (p1 x) (first x) (served.later x late).unasked)
+  | the_first s at ↦ elim (cases_eq s 0) [
+    | inl none ↦ subst (λ y. IsVacant (p2 y).standing) (sym (at ∙ ap (channel listener.number) none)) listens
+    | inr later ↦ vacant_stays (p1 x) (p2 x) (second x)
+        (vacant_unused (p0 x) (p1 x) (first x) (ap p0 at ∙ (served.later s (omega (arith, later))).unasked))
+  ]
+  | a_client j s at ↦ vacant_stays (p1 x) (p2 x) (second x)
+      (subst (λ y. IsVacant (p1 y).standing) (sym at) (closed j s).client)
+  | a_target j s at ↦ vacant_stays (p1 x) (p2 x) (second x)
+      (subst (λ y. IsVacant (p1 y).standing) (sym at) (closed j s).target)
 ]
-  where
-    vacant_unused : (p q : Place) → OnlyCloses p q → p ≡ never_asked → IsVacant q.standing
-    vacant_unused p q closes is = vacant_stays p q closes (subst (λ (u : Place). IsVacant u.standing) (sym is) tt)
 
-    both : (k : ℕ) → IsVacant (p1 (client_at k)).standing × IsVacant (p1 (target_at k)).standing
-    both k = elim (cases_lt k (length c.slots.items)) [
-      | inl few ↦ closed k few
-      | inr past ↦
-          let none = unbegun_past link p0 c served k past in (
-            vacant_unused (p0 (client_at k)) (p1 (client_at k)) (first (client_at k)) none.client_unasked,
-            vacant_unused (p0 (target_at k)) (p1 (target_at k)) (first (target_at k)) none.target_unasked,
-          )
-    ]
+module _ {N : Type 0} (n : Members N) where
+  closed_stays : (x y : N) (j s : ℕ) → IsQuiet n x y → AreClosed j s (n.place x) → AreClosed j s (n.place y)
+  closed_stays x y j s quiet closed = record {
+    client = vacant_stays (n.place x (client_at j s)) (n.place y (client_at j s)) (quiet.places (client_at j s))
+        closed.client;
+    target = vacant_stays (n.place x (target_at j s)) (n.place y (target_at j s)) (quiet.places (target_at j s))
+        closed.target;
+  }
 
--- where the links of one more connection are closed, unless it has ended
-module _ {N : Type 0} (n : Members N) (net0 net1 net2 : N) (c : Connections) (i : ℕ) (slot : Slot)
-    (client target : ChanId) where
-  abbrev AreVacant : N → ℕ → Type 0
-  AreVacant net k = IsVacant (n.place net (client_at k)).standing × IsVacant (n.place net (target_at k)).standing
+  -- what isn't relayed is closed
+  closed_over : (x : N) (c : Connections) (j s : ℕ) → AreServed (n.link x) (n.place x) c
+      → ((relay : Relay) → status_at c.slots.items j s ≢ Some (Live relay)) → AreClosed j s (n.place x)
+  closed_over x c j s served none =
+      let both = over_vacant c.target (status_at c.slots.items j s) (n.link x (client_at j s)) (n.link x (target_at j s))
+      (n.place x (client_at j s)) (n.place x (target_at j s)) none (served.connections j s) in
+      record { client = both.0; target = both.1 }
 
-  pub closed_next : AreServed (n.link net0) (n.place net0) c → client ≡ client_at i → target ≡ target_at i
+  -- where the links of the slot i are closed, if it relays a connection
+  pub closed_next : (net0 net1 net2 : N) (c : Connections) (i : ℕ) (slot : Slot) → AreServed (n.link net0) (n.place net0) c
       → slice_get c.slots.items i ≡ Some slot → IsQuiet n net0 net1 → IsQuiet n net1 net2
-      → ((k : ℕ) → k < i → AreVacant net1 k)
-      → (IsFalse (has_ended (Some slot)) → IsVacant (n.place net2 client).standing
-      × IsVacant (n.place net2 target).standing)
-      → (k : ℕ) → k < i + 1 → AreVacant net2 k
-  closed_next served is_client is_target there first second before closed k few = elim (cases_order k i) [
-    | inl same ↦ subst (AreVacant net2) (sym same) (by_test (has_ended (Some slot)) refl)
-    | inr (inl less) ↦ stays net1 k second (before k less)
+      → ((j s : ℕ) → j < i → AreClosed j s (n.place net1))
+      → (IsSome slot.relay → AreClosed i (slot.uses - 1) (n.place net2))
+      → (j s : ℕ) → j < i + 1 → AreClosed j s (n.place net2)
+  closed_next net0 net1 net2 c i slot served at first second before closed j s few = elim (cases_order j i) [
+    | inl same ↦ subst (λ k. AreClosed k s (n.place net2)) (sym same) (by_relay slot.relay refl s)
+    | inr (inl less) ↦ closed_stays net1 net2 j s second (before j s less)
     | inr (inr more) ↦ absurd (omega arith)
   ]
     where
-      stays : (net : N) (j : ℕ) → IsQuiet n net net2 → AreVacant net j → AreVacant net2 j
-      stays net j quiet vacant = (
-        vacant_stays (n.place net (client_at j)) (n.place net2 (client_at j)) (quiet.places (client_at j)) vacant.0,
-        vacant_stays (n.place net (target_at j)) (n.place net2 (target_at j))
-            (quiet.places (target_at j)) vacant.1,
-      )
+      quiet : IsQuiet n net0 net2
+      quiet = quiet_then n net0 net1 net2 first second
 
-      by_test : (b : Bool) → has_ended (Some slot) ≡ b → AreVacant net2 i
-      by_test true is =
-          let here : IsSlot (Some slot) (n.link net0 (client_at i)) (n.link net0 (target_at i))
-          (n.place net0 (client_at i)) (n.place net0 (target_at i)) =
-          subst (λ s. IsSlot s (n.link net0 (client_at i)) (n.link net0 (target_at i)) (n.place net0 (client_at i))
-          (n.place net0 (target_at i))) there (served.slots i).is_slot in
-          stays net0 i (quiet_then n net0 net1 net2 first second) (slot_vacant (Some slot) _ _ _ _ is here)
-      by_test false is =
-          let both = closed is in (
-            subst (λ a. IsVacant (n.place net2 a).standing) is_client both.0,
-            subst (λ b. IsVacant (n.place net2 b).standing) is_target both.1,
-          )
+      by_relay : (o : Option Relay) → slot.relay ≡ o → (t : ℕ) → AreClosed i t (n.place net2)
+      by_relay None idle t =
+          closed_stays net0 net2 i t quiet
+          (closed_over net0 c i t served (none_live (n.link net0) (n.place net0) c served i slot at idle t))
+      by_relay (Some relay) is t = elim (cases_eq t (serial_of slot)) [
+        | inl last ↦
+            let uses : slot.uses - 1 ≡ serial_of slot = omega (
+              arith,
+              (counted_of c i slot served.slots at).uses,
+              ap length (statuses_live slot relay is),
+              length-append (past_of slot) (Live relay ∷ []),
+            ) in
+            subst (λ u. AreClosed i u (n.place net2)) (uses ∙ sym last) (closed (subst IsSome (sym is) refl))
+        | inr other ↦ closed_stays net0 net2 i t quiet
+            (closed_over net0 c i t served (status_over c.slots.items i slot at t other))
+      ]
 
 -- ---- the answers
 
@@ -357,7 +326,7 @@ module _ (plan : ProxyPlan) (clients : List ChanId) (old new : NetView) where
       false_from_ne_true (serves.counted c) (λ is. never_faulted none c (serves.faulty k d few is)) in
       record {
         connections = serves.connections;
-        faults = serves.faults ∙ count_nobody serves.counted clients nobody;
+        faults = serves.faults ∙ count_none serves.counted clients nobody;
         clean = λ k d few. serves.clean k d few (nobody k d few);
       }
   serves_all (Err NetFault) (inl rose) none = absurd (none.polls rose)
@@ -411,7 +380,7 @@ nothing_served plan old new error fresh same cause =
       clients = [];
       accepted = same ∙ sym (append-nil old.accepted);
       within = omega arith;
-      apart = apart_below 0;
+      apart = λ i j d before within. absurd (omega arith);
       relays = All-nil (WasRelayed new.link);
       leaves = record {
         vacant = λ c. subst (λ (p : Place). IsVacant p.standing) (sym (fresh.unasked c)) tt;
@@ -425,34 +394,37 @@ nothing_served plan old new error fresh same cause =
       complete = serves_all plan [] old new (Err error) answers;
     }
 
-pub served_first : (link : ChanId → Link) (place : ChanId → Place) (c : Connections)
+all_of_none : {X : Type 0} (P : X → Type 0) (xs : List X) → xs ≡ [] → All P xs
+all_of_none P xs none k d within = absurd (omega (arith, ap length none))
+
+pub served_first : (plan : ProxyPlan) (link : ChanId → Link) (place : ChanId → Place) (c : Connections)
     → ((k : ChanId) → IsUnused (link k)) → ((k : ChanId) → k ≢ listener → place k ≡ never_asked)
-    → c.slots.items ≡ [] → c.conns ≤ vec_capacity c.slots → c.ended ≡ 0 → c.faulted ≡ 0
-    → c.conns ≤ 16000 → AreServed link place c
-served_first link place c fresh unasked none room ended faulted few =
-    let at : (k : ℕ) → slice_get c.slots.items k ≡ None = λ k. ap (λ (xs : List Slot). slice_get xs k) none in
-    let clients : (k : ℕ) → place (client_at k) ≡ never_asked = λ k. unasked (client_at k) (client_listener k) in
-    let targets : (k : ℕ) → place (target_at k) ≡ never_asked = λ k. unasked (target_at k) (target_listener k) in
+    → AreUnbegun plan c → plan.at_once ≤ 16000 → plan.conns ≤ 4294967295 → AreServed link place c
+served_first plan link place c fresh unasked first few small =
+    let none : (j s : ℕ) → status_at c.slots.items j s ≡ None = none_first plan c first in
     record {
-      slots = λ k. subst
-          (λ s. IsSlotOf c.target s (link (client_at k)) (link (target_at k)) (place (client_at k))
-          (place (target_at k))) (sym (at k)) (record {
-            is_slot = record {
-              client_unused = fresh (client_at k);
-              target_unused = fresh (target_at k);
-              client_unasked = clients k;
-              target_unasked = targets k;
-            };
-            roles = (ap (λ (p : Place). p.role) (clients k), ap (λ (p : Place). p.role) (targets k));
+      slots = slots_first plan c first few;
+      connections = λ j s. subst
+          (λ o. StandsAs c.target o (link (client_at j s)) (link (target_at j s)) (place (client_at j s))
+          (place (target_at j s))) (sym (none j s)) (record {
+            client = record { no_bytes = fresh (client_at j s); unasked = unasked (client_at j s) (client_listener j s) };
+            target = record { no_bytes = fresh (target_at j s); unasked = unasked (target_at j s) (target_listener j s) };
           });
-      later = λ x late. record { no_bytes = fresh x; unasked = unasked x (later_listener x late) };
-      few = omega (arith, ap length none);
-      room = room;
-      bound = few;
-      ended = ended
-          ∙ sym (count_none (λ k. has_ended (slice_get c.slots.items k)) c.conns (λ k _. ap has_ended (at k)));
-      faulted = faulted
-          ∙ sym (count_none (λ k. has_faulted (slice_get c.slots.items k)) c.conns (λ k _. ap has_faulted (at k)));
+      clients = all_of_none (IsClient c.slots.items) c.clients first.clients;
+      known = λ j s is. let never : false ≡ true = sym (ap is_some (none j s)) ∙ is in absurd (cc);
+      apart = λ i j d before within. absurd (omega (arith, within, ap length first.clients));
+      begun = first.begun ∙ sym (ap length first.clients);
+      within = omega (arith, first.begun);
+      bound = omega (arith, first.conns, small);
+      ended = first.ended ∙ sym (count_none (λ x. has_ended (status_of c.slots.items x)) c.clients
+          (all_of_none (λ x. IsFalse (has_ended (status_of c.slots.items x))) c.clients first.clients));
+      faulted = first.faulted ∙ sym (count_none (λ x. has_faulted (status_of c.slots.items x)) c.clients
+          (all_of_none (λ x. IsFalse (has_faulted (status_of c.slots.items x))) c.clients first.clients));
+      later = λ s late. record {
+        no_bytes = fresh (channel listener.number s);
+        unasked = unasked (channel listener.number s) (λ same.
+            let at : s ≡ 0 = ap (λ (x : ChanId). x.serial) same in absurd (omega (arith, late, at)));
+      };
     }
 
 -- ---- a whole run
@@ -467,9 +439,7 @@ module _ {N : Type 0} (n : Members N) where
     pub polls : n.poll_faults net1 ≡ n.poll_faults net0
     pub accepted : n.accepted net1 ≡ n.accepted net0
     pub asked : (n.place net1 listener).role ≡ role.Listener plan.listen
-    pub none : c0.slots.items ≡ []
-    pub conns : c0.conns ≡ plan.conns
-    pub target : c0.target ≡ plan.target
+    pub first : AreUnbegun plan c0
     pub serving : Serving n net1 net2 c0 c1
     pub role : (n.place net2 listener).role ≡ (n.place net1 listener).role
     pub quiet : IsQuiet n net2 net3
@@ -477,11 +447,14 @@ module _ {N : Type 0} (n : Members N) where
 
   module _ (plan : ProxyPlan) (net0 net1 net2 net3 : N) (c0 c1 : Connections)
       (ran : Ran plan net0 net1 net2 net3 c0 c1) where
+    served : AreServed (n.link net2) (n.place net2) c1
+    served = ran.serving.served
+
     all : c1.conns ≡ plan.conns
-    all = ran.serving.conns ∙ ran.conns
+    all = ran.serving.conns ∙ ran.first.conns
 
     to : c1.target ≡ plan.target
-    to = ran.serving.target ∙ ran.target
+    to = ran.serving.target ∙ ran.first.target
 
     same_role : (c : ChanId) → (n.place net3 c).role ≡ (n.place net2 c).role
     same_role c = role_stays (n.place net2 c) (n.place net3 c) (ran.quiet.places c)
@@ -496,23 +469,32 @@ module _ {N : Type 0} (n : Members N) where
     counts_end : (c : ChanId) → n.faults net3 c ≡ n.faults net2 c
     counts_end = ran.quiet.faults
 
-    -- how many were accepted
-    abbrev count : ℕ
-    count = length c1.slots.items
+    -- what holds of each connection holds of all clients
+    of_all : (P : ChanId → Type 0) → ((j s : ℕ) → IsSome (status_at c1.slots.items j s) → P (client_at j s))
+        → All P c1.clients
+    of_all P each = all_clients P c1.slots.items c1.clients served.clients each
 
-    relays_of : (k : ℕ) → WasRelayed (n.link net3) (client_at k)
-    relays_of k =
-        subst (λ l. HaveCarried AreRelayed l (n.link net3 (target_at k))) (sym (ran.quiet.links (client_at k)))
-        (subst (λ l. HaveCarried AreRelayed (n.link net2 (client_at k)) l) (sym (ran.quiet.links (target_at k)))
-        (slot_relayed (slice_get c1.slots.items k) _ _ _ _ (ran.serving.served.slots k).is_slot))
+    -- the links carried at the end what they had carried before
+    carried_end : {P : Carried → Carried → Type 0} (c : ChanId)
+        → HaveCarried P (n.link net2 c) (n.link net2 (target_of c))
+        → HaveCarried P (n.link net3 c) (n.link net3 (target_of c))
+    carried_end {P} c have =
+        subst (λ l. HaveCarried P l (n.link net3 (target_of c))) (sym (ran.quiet.links c))
+        (subst (λ l. HaveCarried P (n.link net2 c) l) (sym (ran.quiet.links (target_of c))) have)
 
-    roles_of : (k : ℕ) → k < count → ((n.place net3 (client_at k)).role ≡ role.Accepted listener)
-        × IsAtMost (role.Connected plan.target) (n.place net3 (target_at k)).role
-    roles_of k few =
-        let roles = roles_within c1.target c1.slots.items k _ _ few (ran.serving.served.slots k).roles in (
-          same_role (client_at k) ∙ roles.0,
-          subst (λ a. IsAtMost (role.Connected a) (n.place net3 (target_at k)).role) to
-              (subst (IsAtMost (role.Connected c1.target)) (sym (same_role (target_at k))) roles.1),
+    relays_of : (j s : ℕ) → WasRelayed (n.link net3) (client_at j s)
+    relays_of j s =
+        carried_end (client_at j s)
+        (stands_relayed c1.target (status_at c1.slots.items j s) _ _ _ _ (served.connections j s))
+
+    roles_of : (j s : ℕ) → IsSome (status_at c1.slots.items j s)
+        → ((n.place net3 (client_at j s)).role ≡ role.Accepted listener)
+        × IsAtMost (role.Connected plan.target) (n.place net3 (target_at j s)).role
+    roles_of j s some =
+        let roles = stands_roles c1.target (status_at c1.slots.items j s) _ _ _ _ some (served.connections j s) in (
+          same_role (client_at j s) ∙ roles.0,
+          subst (λ a. IsAtMost (role.Connected a) (n.place net3 (target_at j s)).role) to
+              (subst (IsAtMost (role.Connected c1.target)) (sym (same_role (target_at j s))) roles.1),
         )
 
     -- what wasn't asked to be anything stays so
@@ -520,120 +502,130 @@ module _ {N : Type 0} (n : Members N) where
     unasked_still p q (inl same) is = same ∙ is
     unasked_still p q (inr closes) is = closes ∙ ap place_after_close is
 
-    leaves_of : LeavesNothing plan (clients_below count) (view_of n net3)
+    leaves_of : LeavesNothing plan c1.clients (view_of n net3)
     leaves_of = record {
       vacant = ran.vacant;
       listens = inr listened;
       no_bytes = subst IsUnused (sym (ran.quiet.links listener ∙ (ran.serving.no_bytes ∙ ran.links listener)))
           (ran.fresh listener);
-      accepted = all_below (λ c. (n.place net3 c).role ≡ role.Accepted listener) count (λ k few. (roles_of k few).0);
-      targets = all_below (λ c. IsAtMost (role.Connected plan.target) (n.place net3 (target_of c)).role) count
-          (λ k few. (roles_of k few).1);
+      accepted = of_all (λ c. (n.place net3 c).role ≡ role.Accepted listener) (λ j s some. (roles_of j s some).0);
+      targets = of_all (λ c. IsAtMost (role.Connected plan.target) (n.place net3 (target_of c)).role)
+          (λ j s some. (roles_of j s some).1);
       others = λ c none.
-          let untouched = untouched_else (n.link net2) (n.place net2) c1 ran.serving.served c (not_listener c count none)
-          (not_below c count none) in
+          let untouched = untouched_else (n.link net2) (n.place net2) c1 served c none in
           record {
             no_bytes = subst IsUnused (sym (ran.quiet.links c)) untouched.no_bytes;
             unasked = unasked_still (n.place net2 c) (n.place net3 c) (ran.quiet.places c) untouched.unasked;
           };
     }
 
-    -- the accepted links are those of the first connections
-    in_order : n.accepted net3 ≡ n.accepted net0 ++ clients_below count
+    -- the accepted links are the clients
+    pub in_order : n.accepted net3 ≡ n.accepted net0 ++ c1.clients
     in_order =
         ran.quiet.accepted
         ∙ ran.serving.order (n.accepted net0)
         (ran.accepted
-        ∙ (sym (append-nil (n.accepted net0))
-        ∙ ap (λ (xs : List Slot). n.accepted net0 ++ clients_below (length xs)) (sym ran.none)))
+        ∙ (sym (append-nil (n.accepted net0)) ∙ ap (λ xs. n.accepted net0 ++ xs) (sym ran.first.clients)))
 
     -- what was promised, by what is answered
     pub serves_by : (result : Result Served ServeError)
-        → Answers plan (clients_below count) (view_of n net0) (view_of n net3) result
+        → Answers plan c1.clients (view_of n net0) (view_of n net3) result
         → Serves plan (view_of n net0) (view_of n net3) result
     serves_by result answers = record {
-      clients = clients_below count;
+      clients = c1.clients;
       accepted = in_order;
-      within = omega (arith, length_below count, ran.serving.served.few, all);
-      apart = apart_below count;
-      relays = all_below (WasRelayed (n.link net3)) count (λ k _. relays_of k);
+      within = omega (arith, served.begun, served.within, all);
+      apart = run_apart c1.slots.items c1.clients served.clients served.apart;
+      relays = of_all (WasRelayed (n.link net3)) (λ j s _. relays_of j s);
       leaves = leaves_of;
       answers = answers;
-      complete = serves_all plan (clients_below count) (view_of n net0) (view_of n net3) result answers;
+      complete = serves_all plan c1.clients (view_of n net0) (view_of n net3) result answers;
     }
 
     -- where all connections have ended
     module _ (over : c1.ended ≡ c1.conns) where
-      all_ended : (k : ℕ) → k < plan.conns → IsTrue (has_ended (slice_get c1.slots.items k))
-      all_ended k few =
-          count_all (λ j. has_ended (slice_get c1.slots.items j)) c1.conns (sym ran.serving.served.ended ∙ over) k
-          (omega (arith, few, all))
+      -- all began
+      all_count : length c1.clients ≡ plan.conns
+      all_count = omega (
+        arith,
+        over,
+        all,
+        served.ended,
+        served.begun,
+        served.within,
+        count_few (λ x. has_ended (status_of c1.slots.items x)) c1.clients,
+      )
 
-      -- all were begun
-      all_count : count ≡ plan.conns
-      all_count =
-          all_begun c1.slots.items c1.conns ran.serving.served.few (sym ran.serving.served.ended ∙ over) ∙ all
+      all_ended : All (λ x. IsTrue (has_ended (status_of c1.slots.items x))) c1.clients
+      all_ended = count_all (λ x. has_ended (status_of c1.slots.items x)) c1.clients
+          (sym served.ended ∙ (over ∙ (all ∙ sym all_count)))
 
-      begun_of : (k : ℕ) → k < plan.conns → WasBegun plan.target (n.place net3) (client_at k)
-      begun_of k few =
-          let roles = roles_ended c1.target (slice_get c1.slots.items k) _ _ (all_ended k few)
-          (ran.serving.served.slots k).roles in
-          let gone = slot_gone (slice_get c1.slots.items k) _ _ _ _ (all_ended k few)
-          (ran.serving.served.slots k).is_slot in
-          let stands = gone_stays (n.place net2 (client_at k)) (n.place net3 (client_at k))
-          (ran.quiet.places (client_at k)) gone in
+      ended_at : (j s : ℕ) → IsSome (status_at c1.slots.items j s) → IsTrue (has_ended (status_at c1.slots.items j s))
+      ended_at j s some =
+          subst (λ o. IsTrue (has_ended o)) (status_by c1.slots.items j s)
+          (All-contains (λ x. IsTrue (has_ended (status_of c1.slots.items x))) c1.clients (client_at j s) all_ended
+          (served.known j s some))
+
+      begun_of : (j s : ℕ) → IsSome (status_at c1.slots.items j s)
+          → WasBegun plan.target (n.place net3) (client_at j s)
+      begun_of j s some =
+          let o = status_at c1.slots.items j s in
+          let roles = roles_ended c1.target o _ _ _ _ (ended_at j s some) (served.connections j s) in
+          let gone = stands_gone c1.target o _ _ _ _ (ended_at j s some) (served.connections j s) in
+          let stands = gone_stays (n.place net2 (client_at j s)) (n.place net3 (client_at j s))
+          (ran.quiet.places (client_at j s)) gone in
           record {
-            accepted = place_as (n.place net3 (client_at k)) (role.Accepted listener) Gone
-                (same_role (client_at k) ∙ roles.0) stands;
-            asked =
-                same_role (target_at k) ∙ (roles.1 ∙ ap role.Connected to);
+            accepted = place_as (n.place net3 (client_at j s)) (role.Accepted listener) Gone
+                (same_role (client_at j s) ∙ roles.0) stands;
+            asked = same_role (target_at j s) ∙ (roles.1 ∙ ap role.Connected to);
           }
 
-      clean_of : (k : ℕ) → k < plan.conns → IsFalse (has_faulted (slice_get c1.slots.items k))
-          → HaveCarried IsClean (n.link net3 (client_at k)) (n.link net3 (target_at k))
-      clean_of k few not =
-          subst (λ l. HaveCarried IsClean l (n.link net3 (target_at k))) (sym (ran.quiet.links (client_at k)))
-          (subst (λ l. HaveCarried IsClean (n.link net2 (client_at k)) l) (sym (ran.quiet.links (target_at k)))
-          (slot_clean (slice_get c1.slots.items k) _ _ _ _ (all_ended k few) not (ran.serving.served.slots k).is_slot))
+      clean_of : (j s : ℕ) → IsSome (status_at c1.slots.items j s)
+          → IsFalse (has_faulted (status_at c1.slots.items j s)) → WasClean (n.link net3) (client_at j s)
+      clean_of j s some not =
+          carried_end (client_at j s)
+          (stands_clean c1.target (status_at c1.slots.items j s) _ _ _ _ (ended_at j s some) not
+          (served.connections j s))
 
-      faulty_of : (k : ℕ) → IsTrue (has_faulted (slice_get c1.slots.items k))
-          → HasFaulted (n.faults net0) (n.faults net3) (client_at k)
-      faulty_of k is = elim (ran.serving.faulty k is) [
+      faulty_of : (j s : ℕ) → IsTrue (has_faulted (status_at c1.slots.items j s))
+          → HasFaulted (n.faults net0) (n.faults net3) (client_at j s)
+      faulty_of j s is = elim (ran.serving.faulty j s is) [
         | inl before ↦ let never : false ≡ true =
-            sym (ap (λ (xs : List Slot). has_faulted (slice_get xs k)) ran.none) ∙ before in cc
-        | inr rose ↦ faulted_from (n.faults net0) (n.faults net1) (n.faults net3) k first_later
-            (subst (λ a. Rose (n.faults net1 (client_at k)) a
-            ⊎ Rose (n.faults net1 (target_at k)) (n.faults net3 (target_at k))) (sym (counts_end (client_at k)))
-            (subst (λ b. Rose (n.faults net1 (client_at k)) (n.faults net2 (client_at k))
-            ⊎ Rose (n.faults net1 (target_at k)) b) (sym (counts_end (target_at k))) rose))
+            sym (ap has_faulted (none_first plan c0 ran.first j s)) ∙ before in absurd (cc)
+        | inr rose ↦ faulted_from (n.faults net0) (n.faults net1) (n.faults net3) (client_at j s) first_later
+            (subst (λ a. Rose (n.faults net1 (client_at j s)) a
+            ⊎ Rose (n.faults net1 (target_at j s)) (n.faults net3 (target_at j s))) (sym (counts_end (client_at j s)))
+            (subst (λ b. Rose (n.faults net1 (client_at j s)) (n.faults net2 (client_at j s))
+            ⊎ Rose (n.faults net1 (target_at j s)) b) (sym (counts_end (target_at j s))) rose))
       ]
 
-      -- the number of a counted client is that of its connection
+      -- the connections that are counted as faulty
       abbrev counted : ChanId → Bool
-      counted c = has_faulted (slice_get c1.slots.items (index_of c))
+      counted c = has_faulted (status_of c1.slots.items c)
 
-      counted_at : (b : Bool) (k : ℕ) → counted (client_at k) ≡ b → has_faulted (slice_get c1.slots.items k) ≡ b
-      counted_at b k is = ap (λ i. has_faulted (slice_get c1.slots.items i)) (sym (index_at k)) ∙ is
+      counted_at : (b : Bool) (j s : ℕ) → counted (client_at j s) ≡ b
+          → has_faulted (status_at c1.slots.items j s) ≡ b
+      counted_at b j s is = ap has_faulted (sym (status_by c1.slots.items j s)) ∙ is
 
-      served_of : HasServed plan (clients_below count) (view_of n net0) (view_of n net3)
+      served_of : HasServed plan c1.clients (view_of n net0) (view_of n net3)
           (record { connections = plan.conns; faults = c1.faulted })
       served_of = record {
-        all = length_below count ∙ all_count;
+        all = all_count;
         connections = refl;
-        begun = all_below (WasBegun plan.target (n.place net3)) count (λ k few. begun_of k (omega (arith, few, all_count)));
+        begun = of_all (WasBegun plan.target (n.place net3)) begun_of;
         counted = counted;
-        faults = ran.serving.served.faulted
-            ∙ (ap (count_below (λ k. has_faulted (slice_get c1.slots.items k))) (all ∙ sym all_count)
-            ∙ sym (count_numbers (λ k. has_faulted (slice_get c1.slots.items k)) count));
-        faulty = all_below (λ c. IsTrue (counted c) → HasFaulted (n.faults net0) (n.faults net3) c) count
-            (λ k _ is. faulty_of k (counted_at true k is));
-        unfaulted = all_below (λ c. IsFalse (counted c) → IsUnfaulted (n.faults net0) (n.faults net3) c) count
-            (λ k _ is. let still = ran.serving.unfaulted k (counted_at false k is) in record {
-              client = counts_end (client_at k) ∙ (still.client ∙ ran.others (client_at k) (client_listener k));
-              target = counts_end (target_at k) ∙ (still.target ∙ ran.others (target_at k) (target_listener k));
+        faults = served.faulted;
+        faulty = of_all (λ c. IsTrue (counted c) → HasFaulted (n.faults net0) (n.faults net3) c)
+            (λ j s _ is. faulty_of j s (counted_at true j s is));
+        unfaulted = of_all (λ c. IsFalse (counted c) → IsUnfaulted (n.faults net0) (n.faults net3) c)
+            (λ j s _ is. let still = ran.serving.unfaulted j s (counted_at false j s is) in record {
+              client = counts_end (client_at j s)
+                  ∙ (still.client ∙ ran.others (client_at j s) (client_listener j s));
+              target = counts_end (target_at j s)
+                  ∙ (still.target ∙ ran.others (target_at j s) (target_listener j s));
             });
-        clean = all_below (λ c. IsFalse (counted c) → WasClean (n.link net3) c) count
-            (λ k few is. clean_of k (omega (arith, few, all_count)) (counted_at false k is));
+        clean = of_all (λ c. IsFalse (counted c) → WasClean (n.link net3) c)
+            (λ j s some is. clean_of j s some (counted_at false j s is));
       }
 
       pub serves_of : Serves plan (view_of n net0) (view_of n net3)
@@ -648,3 +640,15 @@ module _ {N : Type 0} (n : Members N) where
         (subst (Rose (n.poll_faults net1)) (sym ran.quiet.polls) rose))
     fault_of (inr rose) =
         inr (rose_from _ _ _ ran.here (subst (Rose (n.faults net1 listener)) (sym (counts_end listener)) rose))
+
+    -- the board has registered the channels of the clients
+    pub registers_all : (registered : List ChanId) → registered ≡ run_channels c1.clients
+        → HasRegisteredAll (n.accepted net0) (n.accepted net3) registered
+    registers_all registered is clients more =
+        is ∙ ap run_channels (append_cancel_left (n.accepted net0) c1.clients clients (sym in_order ∙ more))
+
+    pub registers_some : (registered : List ChanId) → IsPrefix registered (run_channels c1.clients)
+        → HasRegisteredSome (n.accepted net0) (n.accepted net3) registered
+    registers_some registered is clients more =
+        subst (λ xs. IsPrefix registered (run_channels xs))
+        (append_cancel_left (n.accepted net0) c1.clients clients (sym in_order ∙ more)) is

@@ -12,6 +12,7 @@ use Rattle.nio_link.specs.declared.net.Put.TheVariants as put
 use Rattle.nio_relay.specs.Flow.{Flow, ends, takes}
 use Rattle.nio_base.specs.Ops.{is_within}
 use Rattle.nio_serve.specs.Nets.{Works}
+use Rattle.nio_serve.specs.declared.link.Told.{Told}
 use Rattle.nio_serve.specs.Relaying.{KeepsSink, KeepsSource}
 
 -- A direction that takes from the link a and writes to the link b has gone from f to g, and the net from x to y. What
@@ -44,6 +45,11 @@ abbrev pub ReadyAfterPut : Put → ℕ → ℕ → Type 0
 ReadyAfterPut (put.Bytes n) before now = now ≡ before
 ReadyAfterPut put.NotYet before now = Unit {0}
 
+-- the two links of a connection are ready for what they were told
+pub record AreToldReady (ready : ChanNo → ℕ) (told : Told) : Type 0 where
+  pub client : IsTrue (is_within told.ops.client (ready told.links.client.number))
+  pub target : IsTrue (is_within told.ops.target (ready told.links.target.number))
+
 -- the count of faults of one of two links rose
 abbrev pub OneRose : (ChanId → ℕ) → (ChanId → ℕ) → ChanId → ChanId → Type 0
 OneRose before now a b = Rose (before a) (now a) ⊎ Rose (before b) (now b)
@@ -53,6 +59,6 @@ pub record BothSame (before now : ChanId → ℕ) (a b : ChanId) : Type 0 where
   pub first : now a ≡ before a
   pub second : now b ≡ before b
 
--- the first channel after those of the connection to which this one belongs; after the listener's the first of all
-abbrev pub channel_after : ChanNo → ℕ
-channel_after c = 2 * ((c.0 + 1) / 2) + 1
+-- the first number after those of the slot to which this one belongs; after the listener's the first of all
+abbrev pub number_after : ChanNo → ℕ
+number_after c = 2 * ((c.0 + 1) / 2) + 1

@@ -12,8 +12,8 @@ use Rattle.nio_link.specs.declared.place.Standing.TheVariants.{Linked, Shut, Con
 use Rattle.nio_relay.specs.Connection.{Carried}
 use Rattle.nio_relay.specs.Flow.{Flow}
 use Rattle.nio_serve.specs.Serving.{HasCarried}
-use Rattle.nio_serve.specs.declared.slot.Stage.{Stage}
-use Rattle.nio_serve.specs.declared.slot.Stage.TheVariants as stage
+use Rattle.nio_serve.specs.declared.relay.Stage.{Stage}
+use Rattle.nio_serve.specs.declared.relay.Stage.TheVariants as stage
 
 -- what a link has carried of which one direction takes bytes and to which the other writes
 abbrev pub carried : Flow → Flow → Carried

@@ -8,6 +8,7 @@ mod connections;
 mod direct;
 mod link;
 mod proxy;
+mod relay;
 mod serving;
 mod slot;
 mod spare;

@@ -7,7 +7,8 @@ ghost use Rattle.nio_link.specs.declared.place.Standing.TheVariants as standing;
 ghost use Rattle.nio_relay.specs.Flow.{Flow, MayTake, buffered, takes};
 ghost use Rattle.nio_base.specs.Ops.{is_within};
 ghost use Rattle.nio_serve.specs.Nets.{AreApart, Works};
-ghost use Rattle.nio_serve.specs.Passing.{BothSame, OneRose, Passes, ReadyAfterGot, ReadyAfterPut, flow_after_read};
+ghost use Rattle.nio_serve.specs.Passing.{AreToldReady, BothSame, OneRose, Passes, ReadyAfterGot, ReadyAfterPut};
+ghost use Rattle.nio_serve.specs.Passing.{flow_after_read};
 ghost use Rattle.nio_serve.specs.Relaying.{IsEnd, KeepsSource, KeepsSink, SameSink, SameSource, carried, open_or_shut};
 
 use crate::way::Way;
@@ -42,11 +43,21 @@ impl ToldOps {
     };
 }
 
-/// Whether a direction was told that its source can be read, and that its sink can be written.
+/// The links of a connection, with what they were told ready for.
 #[derive(Clone, Copy, Debug, PartialEq, Eq)]
-struct Can {
-    read: bool,
-    write: bool,
+pub(crate) struct Told {
+    pub links: Links,
+    pub ops: ToldOps,
+}
+
+/// From which link to which a direction carries bytes, and whether the first was told that it can be read, and the second
+/// that it can be written.
+#[derive(Clone, Copy, Debug, PartialEq, Eq)]
+struct Course {
+    source: ChanId,
+    sink: ChanId,
+    can_read: bool,
+    can_write: bool,
 }
 
 /// Whether more may be passed on at once, in each of the two directions of a connection.
@@ -374,23 +385,21 @@ fn pass_all<N, W: Way<N>>(
 fn write_told<N, W: Way<N>>(
     way: &mut W,
     net: &mut N,
-    source: ChanId,
-    sink: ChanId,
+    course: Course,
     direction: &mut Direction,
-    can_write: bool,
 ) -> Result<bool, Failed>
-    requires apart { AreApart source sink }
-    requires ready { IsTrue can_write → IsTrue (is_within 4 (W.ready net.old sink.number)) }
-    requires stands { (W.place net.old sink).standing ≡ open_or_shut direction.old.shut }
-    ensures passes { Passes W.Way source sink direction.old direction.new net.old net.new }
-    ensures readable { W.ready net.new source.number ≡ W.ready net.old source.number }
-    ensures cause { OnErr result (OneRose (W.faults net.old) (W.faults net.new) source sink) }
-    ensures calm { OnOk result (BothSame (W.faults net.old) (W.faults net.new) source sink) }
-    ensures writable { IfOk result (λ more. IsTrue more → IsTrue (is_within 4 (W.ready net.new sink.number))) }
+    requires apart { AreApart course.source course.sink }
+    requires ready { IsTrue course.can_write → IsTrue (is_within 4 (W.ready net.old course.sink.number)) }
+    requires stands { (W.place net.old course.sink).standing ≡ open_or_shut direction.old.shut }
+    ensures passes { Passes W.Way course.source course.sink direction.old direction.new net.old net.new }
+    ensures readable { W.ready net.new course.source.number ≡ W.ready net.old course.source.number }
+    ensures cause { OnErr result (OneRose (W.faults net.old) (W.faults net.new) course.source course.sink) }
+    ensures calm { OnOk result (BothSame (W.faults net.old) (W.faults net.new) course.source course.sink) }
+    ensures writable { IfOk result (λ more. IsTrue more → IsTrue (is_within 4 (W.ready net.new course.sink.number))) }
     ensures none_buffered { IfOk result (λ more. IsTrue more → buffered direction.new ≡ []) }
 {
-    if can_write {
-        write_all(way, net, sink, direction)
+    if course.can_write {
+        write_all(way, net, course.sink, direction)
     } else {
         Ok(false)
     }
@@ -406,61 +415,58 @@ fn is_filled(before: usize, now: usize) -> bool {
 fn read_told<N, W: Way<N>>(
     way: &mut W,
     net: &mut N,
-    source: ChanId,
-    sink: ChanId,
+    course: Course,
     direction: &mut Direction,
-    can: Can,
     scratch: &mut [u8],
 ) -> Result<bool, Failed>
     requires scratch { length scratch.old ≡ CAPACITY }
-    requires apart { AreApart source sink }
-    requires read { IsTrue can.read → IsTrue (is_within 1 (W.ready net.old source.number)) }
-    requires write { IsTrue can.write → IsTrue (is_within 4 (W.ready net.old sink.number)) }
-    requires linked { IsLinked (W.place net.old source).standing }
-    requires stands { (W.place net.old sink).standing ≡ open_or_shut direction.old.shut }
-    requires none_buffered { IsTrue can.write → buffered direction.old ≡ [] }
-    ensures passes { Passes W.Way source sink direction.old direction.new net.old net.new }
-    ensures cause { OnErr result (OneRose (W.faults net.old) (W.faults net.new) source sink) }
-    ensures calm { OnOk result (BothSame (W.faults net.old) (W.faults net.new) source sink) }
+    requires apart { AreApart course.source course.sink }
+    requires read { IsTrue course.can_read → IsTrue (is_within 1 (W.ready net.old course.source.number)) }
+    requires write { IsTrue course.can_write → IsTrue (is_within 4 (W.ready net.old course.sink.number)) }
+    requires linked { IsLinked (W.place net.old course.source).standing }
+    requires stands { (W.place net.old course.sink).standing ≡ open_or_shut direction.old.shut }
+    requires none_buffered { IsTrue course.can_write → buffered direction.old ≡ [] }
+    ensures passes { Passes W.Way course.source course.sink direction.old direction.new net.old net.new }
+    ensures cause { OnErr result (OneRose (W.faults net.old) (W.faults net.new) course.source course.sink) }
+    ensures calm { OnOk result (BothSame (W.faults net.old) (W.faults net.new) course.source course.sink) }
 {
-    if !can.read {
+    if !course.can_read {
         return Ok(false);
     }
-    if can.write {
-        return pass_all(way, net, source, sink, direction, scratch);
+    if course.can_write {
+        return pass_all(way, net, course.source, course.sink, direction, scratch);
     }
     let room = direction.room();
-    read_all(way, net, source, direction, scratch)?;
+    read_all(way, net, course.source, direction, scratch)?;
     Ok(is_filled(room, direction.room()))
 }
 
-// Carries bytes from the link `source` to the link `sink`, as they were told ready. Says whether more may be passed on
-// at once.
+// Carries bytes from one link to another, as they were told ready. Says whether more may be passed on at once.
 fn carry<N, W: Way<N>>(
     way: &mut W,
     net: &mut N,
-    source: ChanId,
-    sink: ChanId,
+    course: Course,
     direction: &mut Direction,
-    can: Can,
     scratch: &mut [u8],
 ) -> Result<bool, Failed>
     requires scratch { length scratch.old ≡ CAPACITY }
-    requires apart { AreApart source sink }
-    requires read { IsTrue can.read → IsTrue (is_within 1 (W.ready net.old source.number)) }
-    requires write { IsTrue can.write → IsTrue (is_within 4 (W.ready net.old sink.number)) }
-    requires linked { IsLinked (W.place net.old source).standing }
-    requires stands { (W.place net.old sink).standing ≡ open_or_shut direction.old.shut }
-    ensures passes { Passes W.Way source sink direction.old direction.new net.old net.new }
-    ensures cause { OnErr result (OneRose (W.faults net.old) (W.faults net.new) source sink) }
-    ensures calm { OnOk result (BothSame (W.faults net.old) (W.faults net.new) source sink) }
+    requires apart { AreApart course.source course.sink }
+    requires read { IsTrue course.can_read → IsTrue (is_within 1 (W.ready net.old course.source.number)) }
+    requires write { IsTrue course.can_write → IsTrue (is_within 4 (W.ready net.old course.sink.number)) }
+    requires linked { IsLinked (W.place net.old course.source).standing }
+    requires stands { (W.place net.old course.sink).standing ≡ open_or_shut direction.old.shut }
+    ensures passes { Passes W.Way course.source course.sink direction.old direction.new net.old net.new }
+    ensures cause { OnErr result (OneRose (W.faults net.old) (W.faults net.new) course.source course.sink) }
+    ensures calm { OnOk result (BothSame (W.faults net.old) (W.faults net.new) course.source course.sink) }
 {
-    let takes_more = write_told(way, net, source, sink, direction, can.write)?;
-    let can = Can {
-        read: can.read,
-        write: takes_more,
+    let can_write = write_told(way, net, course, direction)?;
+    let course = Course {
+        source: course.source,
+        sink: course.sink,
+        can_read: course.can_read,
+        can_write,
     };
-    read_told(way, net, source, sink, direction, can, scratch)
+    read_told(way, net, course, direction, scratch)
 }
 
 // Shuts the link to which a direction writes, once all that it took is written.
@@ -490,40 +496,43 @@ fn pass_end<N, W: Way<N>>(
 fn carry_both<N, W: Way<N>>(
     way: &mut W,
     net: &mut N,
-    links: Links,
+    told: Told,
     there: &mut Direction,
     back: &mut Direction,
-    told: ToldOps,
     scratch: &mut [u8],
 ) -> Result<Flows, Failed>
     requires scratch { length scratch.old ≡ CAPACITY }
-    requires ready_client { IsTrue (is_within told.client (W.ready net.old links.client.number)) }
-    requires ready_target { IsTrue (is_within told.target (W.ready net.old links.target.number)) }
-    requires apart { AreApart links.client links.target }
-    requires client { IsEnd (W.link net.old links.client) (W.place net.old links.client) (carried there.old back.old) }
-    requires target { IsEnd (W.link net.old links.target) (W.place net.old links.target) (carried back.old there.old) }
-    ensures client { IsEnd (W.link net.new links.client) (W.place net.new links.client) (carried there.new back.new) }
-    ensures target { IsEnd (W.link net.new links.target) (W.place net.new links.target) (carried back.new there.new) }
-    ensures work { Works W.Way links.client links.target net.old net.new }
-    ensures cause { OnErr result (OneRose (W.faults net.old) (W.faults net.new) links.client links.target) }
-    ensures calm { OnOk result (BothSame (W.faults net.old) (W.faults net.new) links.client links.target) }
+    requires ready { AreToldReady (W.ready net.old) told }
+    requires apart { AreApart told.links.client told.links.target }
+    requires client { IsEnd (W.link net.old told.links.client) (W.place net.old told.links.client) (carried there.old back.old) }
+    requires target { IsEnd (W.link net.old told.links.target) (W.place net.old told.links.target) (carried back.old there.old) }
+    ensures client { IsEnd (W.link net.new told.links.client) (W.place net.new told.links.client) (carried there.new back.new) }
+    ensures target { IsEnd (W.link net.new told.links.target) (W.place net.new told.links.target) (carried back.new there.new) }
+    ensures work { Works W.Way told.links.client told.links.target net.old net.new }
+    ensures cause { OnErr result (OneRose (W.faults net.old) (W.faults net.new) told.links.client told.links.target) }
+    ensures calm { OnOk result (BothSame (W.faults net.old) (W.faults net.new) told.links.client told.links.target) }
 {
-    let client_reads = Ops::READ.within(told.client);
-    let client_writes = Ops::WRITE.within(told.client);
-    let target_reads = Ops::READ.within(told.target);
-    let target_writes = Ops::WRITE.within(told.target);
+    let Told { links, ops } = told;
     let Links { client, target } = links;
-    let can_there = Can {
-        read: client_reads,
-        write: target_writes,
+    let client_reads = Ops::READ.within(ops.client);
+    let client_writes = Ops::WRITE.within(ops.client);
+    let target_reads = Ops::READ.within(ops.target);
+    let target_writes = Ops::WRITE.within(ops.target);
+    let course_there = Course {
+        source: client,
+        sink: target,
+        can_read: client_reads,
+        can_write: target_writes,
     };
-    let can_back = Can {
-        read: target_reads,
-        write: client_writes,
+    let course_back = Course {
+        source: target,
+        sink: client,
+        can_read: target_reads,
+        can_write: client_writes,
     };
     Ok(Flows {
-        there: carry(way, net, client, target, there, can_there, scratch)?,
-        back: carry(way, net, target, client, back, can_back, scratch)?,
+        there: carry(way, net, course_there, there, scratch)?,
+        back: carry(way, net, course_back, back, scratch)?,
     })
 }
 
@@ -553,25 +562,24 @@ fn pass_ends<N, W: Way<N>>(
 pub(crate) fn serve_links<N, W: Way<N>>(
     way: &mut W,
     net: &mut N,
-    links: Links,
+    told: Told,
     there: &mut Direction,
     back: &mut Direction,
-    told: ToldOps,
     scratch: &mut [u8],
 ) -> Result<Flows, Failed>
     requires scratch { length scratch.old ≡ CAPACITY }
-    requires ready_client { IsTrue (is_within told.client (W.ready net.old links.client.number)) }
-    requires ready_target { IsTrue (is_within told.target (W.ready net.old links.target.number)) }
-    requires apart { AreApart links.client links.target }
-    requires client { IsEnd (W.link net.old links.client) (W.place net.old links.client) (carried there.old back.old) }
-    requires target { IsEnd (W.link net.old links.target) (W.place net.old links.target) (carried back.old there.old) }
-    ensures client { IsEnd (W.link net.new links.client) (W.place net.new links.client) (carried there.new back.new) }
-    ensures target { IsEnd (W.link net.new links.target) (W.place net.new links.target) (carried back.new there.new) }
-    ensures work { Works W.Way links.client links.target net.old net.new }
-    ensures cause { OnErr result (OneRose (W.faults net.old) (W.faults net.new) links.client links.target) }
-    ensures calm { OnOk result (BothSame (W.faults net.old) (W.faults net.new) links.client links.target) }
+    requires ready { AreToldReady (W.ready net.old) told }
+    requires apart { AreApart told.links.client told.links.target }
+    requires client { IsEnd (W.link net.old told.links.client) (W.place net.old told.links.client) (carried there.old back.old) }
+    requires target { IsEnd (W.link net.old told.links.target) (W.place net.old told.links.target) (carried back.old there.old) }
+    ensures client { IsEnd (W.link net.new told.links.client) (W.place net.new told.links.client) (carried there.new back.new) }
+    ensures target { IsEnd (W.link net.new told.links.target) (W.place net.new told.links.target) (carried back.new there.new) }
+    ensures work { Works W.Way told.links.client told.links.target net.old net.new }
+    ensures cause { OnErr result (OneRose (W.faults net.old) (W.faults net.new) told.links.client told.links.target) }
+    ensures calm { OnOk result (BothSame (W.faults net.old) (W.faults net.new) told.links.client told.links.target) }
 {
-    let flows = carry_both(way, net, links, there, back, told, scratch)?;
+    let links = told.links;
+    let flows = carry_both(way, net, told, there, back, scratch)?;
     pass_ends(way, net, links, there, back)?;
     Ok(flows)
 }

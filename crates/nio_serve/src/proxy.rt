@@ -1,6 +1,5 @@
 //! The proxy at work: accepting, and serving what a selection tells.
-ghost use Rattle.std.specs.Prelude.{◌≡◌, ◌≢◌, ℕ, ◌-◌, ◌/◌, ◌≤◌, ◌⊎◌, [], Err, IfErr, IfOk, IsSome, IsTrue, OnOk};
-ghost use Rattle.std.specs.Prelude.{length, vec_capacity};
+ghost use Rattle.std.specs.Prelude.{◌≡◌, ◌≢◌, ℕ, ◌-◌, ◌/◌, ◌≤◌, ◌⊎◌, [], Err, IfErr, IfOk, IsSome, IsTrue, OnOk, length};
 ghost use Rattle.nio_base.specs.declared.numbers.ChanId.{ChanId};
 ghost use Rattle.nio_base.specs.declared.numbers.ChanNo.{ChanNo};
 ghost use Rattle.nio_bytes.specs.Cause.{Rose};
@@ -10,13 +9,14 @@ ghost use Rattle.nio_link.specs.declared.place.Standing.TheVariants.{Listening};
 ghost use Rattle.nio_base.specs.Ops.{is_within};
 ghost use Rattle.nio_board.specs.Board.{AreOrdered, AreReady, IsSameBoard, IsSameSeat};
 ghost use Rattle.nio_serve.specs.Nets.{IsQuiet};
-ghost use Rattle.nio_serve.specs.Passing.{channel_after};
+ghost use Rattle.nio_serve.specs.Passing.{number_after};
 ghost use Rattle.nio_serve.specs.Serving.{listener};
-ghost use Rattle.nio_serve.specs.Slots.{AreServed, ListensAt, Serving, client_at, target_at};
+ghost use Rattle.nio_serve.specs.Changes.{AreUnbegun};
+ghost use Rattle.nio_serve.specs.Slots.{AreServed, IsElseReady, IsSlotReady, ListensAt, Serving};
 ghost use Rattle.nio_serve.specs.Watching.{Watching, WatchesAll};
 ghost use Rattle.nio_serve.specs.declared.serving.ServeError.TheVariants.{NetFault};
 
-use crate::connections::Connections;
+use crate::connections::{Connections, SlotTold};
 use crate::link::ToldOps;
 use crate::serving::ServeError;
 use crate::way::Way;
@@ -33,19 +33,53 @@ pub(crate) const LISTENER: ChanId = ChanId {
     serial: 0,
 };
 
-// The first channel after those of the connection to which this one belongs; after the listener's the first of all.
-fn channel_after(chan: ChanNo) -> u64
-    ensures { result ≡ channel_after chan }
+// The first number after those of the slot to which this one belongs; after the listener's the first of all.
+fn number_after(chan: ChanNo) -> u64
+    ensures { result ≡ number_after chan }
 {
     2 * ((u64::from(chan.0) + 1) / 2) + 1
 }
 
-// The number of the connection to which a channel belongs that isn't the listener's.
-fn number_of(chan: ChanNo) -> usize
+// The slot to which a number belongs that isn't the listener's.
+fn slot_of(chan: ChanNo) -> usize
     requires { 1 ≤ chan.0 }
     ensures { result ≡ (chan.0 - 1) / 2 }
 {
     (chan.0 as usize - 1) / 2
+}
+
+// What the slot of a link was told ready for. Where the link is a client's, it is also what its target's was told, if that
+// comes next.
+fn slot_told(told: (ChanNo, Ops), next: (ChanNo, Ops)) -> SlotTold
+    requires { 1 ≤ told.0.0 }
+    ensures slot { result.slot ≡ (told.0.0 - 1) / 2 }
+    ensures ready { (ready : ChanNo → ℕ) → IsTrue (is_within told.1 (ready told.0))
+        → IsTrue (is_within next.1 (ready next.0)) → IsSlotReady ready result }
+{
+    let (chan, ops) = told;
+    let slot = slot_of(chan);
+    if chan.0 % 2 == 0 {
+        let client = Ops::NONE;
+        return SlotTold {
+            slot,
+            ops: ToldOps {
+                client,
+                target: ops,
+            },
+        };
+    }
+    let target = if next.0.0 as usize == 2 * slot + 2 {
+        next.1
+    } else {
+        Ops::NONE
+    };
+    SlotTold {
+        slot,
+        ops: ToldOps {
+            client: ops,
+            target,
+        },
+    }
 }
 
 // What the listener was told ready for: it comes first in what was told, if it was told anything.
@@ -75,23 +109,18 @@ impl<'a> Proxy<'a> {
         board: Board<'a>,
         plan: ProxyPlan,
     ) -> Result<Proxy<'a>, Board<'a>>
-        requires unregistered { board.registered ≡ 0 }
-        ensures slots { IfOk result (λ proxy. proxy.connections.slots.items ≡ []) }
-        ensures room { IfOk result (λ proxy. plan.conns ≤ vec_capacity proxy.connections.slots) }
-        ensures target { IfOk result (λ proxy. proxy.connections.target ≡ plan.target) }
+        requires unregistered { board.registered ≡ [] }
+        ensures unbegun { IfOk result (λ proxy. AreUnbegun plan proxy.connections) }
         ensures watched { IfOk result (λ proxy. IsSome proxy.port) }
-        ensures conns { IfOk result (λ proxy. proxy.connections.conns ≡ plan.conns) }
-        ensures ended { IfOk result (λ proxy. proxy.connections.ended ≡ 0) }
-        ensures faulted { IfOk result (λ proxy. proxy.connections.faulted ≡ 0) }
         ensures seat { IfOk result (λ proxy. IsSameSeat board.entry proxy.board) }
         ensures registered { IfOk result (λ proxy. WatchesAll proxy.board proxy.connections) }
         ensures refused { IfErr result (IsSameBoard board.entry) }
     {
-        let Ok(connections) = Connections::make(alloc, plan.conns, plan.target) else {
+        let Ok(connections) = Connections::make(alloc, plan) else {
             return Err(board);
         };
         let mut board = board;
-        match board.watch(rt, LISTENER.number, Kind::Listener, Ops::ACCEPT) {
+        match board.watch(rt, LISTENER, Kind::Listener, Ops::ACCEPT) {
             Ok(port) => Ok(Proxy {
                 board,
                 port: Some(port),
@@ -109,7 +138,8 @@ impl<'a> Proxy<'a> {
         self.board
     }
 
-    // Accepts the next connection, if the plan has one and it has come. Says whether another one may have come.
+    // Accepts the next connection, if the plan has one, it has come, and a slot is free. Says whether another one may
+    // have come.
     fn accept_one<R: Wait, N, W: Way<N>>(
         &mut self,
         rt: &R,
@@ -129,7 +159,7 @@ impl<'a> Proxy<'a> {
             ≡ W.ready net.old listener.number) }
         ensures watching { Watching self.old.board self.new.board self.new.connections result }
     {
-        if self.connections.slots.len() < self.connections.conns as usize {
+        if self.connections.begun < self.connections.conns {
             self.connections
                 .accept(rt, alloc, way, net, &mut self.board)
         } else {
@@ -137,7 +167,7 @@ impl<'a> Proxy<'a> {
         }
     }
 
-    // Accepts all connections that have come.
+    // Accepts the connections that have come, as far as slots are free.
     fn accept_all<R: Wait, N, W: Way<N>>(
         &mut self,
         rt: &R,
@@ -189,38 +219,35 @@ impl<'a> Proxy<'a> {
         }
     }
 
-    // Does what the links of one connection were told ready for, and what comes of it for the table.
-    fn serve_connection<N, W: Way<N>>(
+    // Does what the links of a slot's connection were told ready for, and what comes of it for the table.
+    fn serve_slot<N, W: Way<N>>(
         &mut self,
         way: &mut W,
         net: &mut N,
-        number: usize,
-        told: ToldOps,
+        told: SlotTold,
         scratch: &mut [u8],
     ) -> Result<(), ServeError>
         requires scratch { length scratch.old ≡ CAPACITY }
-        requires ready_client { IsTrue (is_within told.client (W.ready net.old (client_at number).number)) }
-        requires ready_target { IsTrue (is_within told.target (W.ready net.old (target_at number).number)) }
+        requires ready { IsSlotReady (W.ready net.old) told }
         requires served { AreServed (W.link net.old) (W.place net.old) self.old.connections }
         requires watched { WatchesAll self.old.board self.old.connections }
         ensures serving { Serving W.Way net.old net.new self.old.connections self.new.connections }
         ensures listens { W.place net.new listener ≡ W.place net.old listener }
         ensures port { self.new.port ≡ self.old.port }
-        ensures ready { (c : ChanNo) → c ≢ (client_at number).number → c ≢ (target_at number).number → W.ready net.new c
-            ≡ W.ready net.old c }
+        ensures ready { IsElseReady told.slot (W.ready net.old) (W.ready net.new) }
         ensures cause { result ≢ Err NetFault }
         ensures watching { Watching self.old.board self.new.board self.new.connections result }
     {
         match self
             .connections
-            .serve(way, net, &mut self.board, number, told, scratch)
+            .serve(way, net, &mut self.board, told, scratch)
         {
             Ok(()) => Ok(()),
             Err(Refused) => Err(ServeError::Memory),
         }
     }
 
-    // Does what a link was told ready for: where it is a client's, also what its target's was told, if that comes next.
+    // Does what the slot of a link was told ready for.
     fn serve_told<N, W: Way<N>>(
         &mut self,
         way: &mut W,
@@ -238,32 +265,12 @@ impl<'a> Proxy<'a> {
         ensures serving { Serving W.Way net.old net.new self.old.connections self.new.connections }
         ensures listens { W.place net.new listener ≡ W.place net.old listener }
         ensures port { self.new.port ≡ self.old.port }
-        ensures ready { (c : ChanNo) → channel_after told.0 ≤ c.0 → W.ready net.new c ≡ W.ready net.old c }
+        ensures ready { (c : ChanNo) → number_after told.0 ≤ c.0 → W.ready net.new c ≡ W.ready net.old c }
         ensures accepts { W.ready net.new listener.number ≡ W.ready net.old listener.number }
         ensures cause { result ≢ Err NetFault }
         ensures watching { Watching self.old.board self.new.board self.new.connections result }
     {
-        let (chan, ops) = told;
-        let number = number_of(chan);
-        if chan.0 % 2 == 0 {
-            let told = ToldOps {
-                client: Ops::NONE,
-                target: ops,
-            };
-            self.serve_connection(way, net, number, told, scratch)
-        } else if next.0.0 as usize == 2 * number + 2 {
-            let told = ToldOps {
-                client: ops,
-                target: next.1,
-            };
-            self.serve_connection(way, net, number, told, scratch)
-        } else {
-            let told = ToldOps {
-                client: ops,
-                target: Ops::NONE,
-            };
-            self.serve_connection(way, net, number, told, scratch)
-        }
+        self.serve_slot(way, net, slot_told(told, next), scratch)
     }
 
     // Does what a selection told of links: serves each connection once, with what was told first of each of its links. A
@@ -294,7 +301,7 @@ impl<'a> Proxy<'a> {
                 continue;
             }
             let next = told[(index + 1).min(told.len() - 1)];
-            unserved = channel_after(one.0);
+            unserved = number_after(one.0);
             let served = self.serve_told(way, net, one, next, scratch);
             if served.is_err() {
                 return served;
@@ -333,7 +340,7 @@ impl<'a> Proxy<'a> {
         self.accept_told(rt, alloc, way, net, ops)
     }
 
-    // One selection.
+    // One selection. It has removed the keys of the connections that ended before it.
     fn select<R: Wait, N, W: Way<N>>(
         &mut self,
         rt: &R,
@@ -353,7 +360,10 @@ impl<'a> Proxy<'a> {
         ensures watching { Watching self.old.board self.new.board self.new.connections result }
     {
         match self.board.select(rt, alloc, way, net, told) {
-            Ok(()) => Ok(()),
+            Ok(()) => {
+                self.connections.release();
+                Ok(())
+            }
             Err(PollError::Fault) => Err(ServeError::NetFault),
             Err(PollError::Memory) => Err(ServeError::Memory),
         }
@@ -380,9 +390,12 @@ impl<'a> Proxy<'a> {
         if chan.number.0 == 0 {
             return Ok(());
         }
-        let number = number_of(chan.number);
-        match self.connections.begin(way, net, &mut self.board, number) {
-            Ok(()) => self.serve_connection(way, net, number, ToldOps::NOTHING, scratch),
+        let slot = slot_of(chan.number);
+        match self.connections.begin(way, net, &mut self.board, slot) {
+            Ok(()) => {
+                let ops = ToldOps::NOTHING;
+                self.serve_slot(way, net, SlotTold { slot, ops }, scratch)
+            }
             Err(Refused) => Err(ServeError::Memory),
         }
     }
@@ -412,7 +425,18 @@ impl<'a> Proxy<'a> {
         Ok(())
     }
 
-    // Watches the listener where the way permits to accept, if it isn't watched so already.
+    // For what the listener is to be watched: to accept, where the way permits that and there is a slot for a client.
+    fn wanted<N, W: Way<N>>(&self, way: &W) -> Ops
+        ensures full { self.now.connections.idle.items ≡ [] → result ≡ 0 }
+    {
+        if self.connections.is_full() {
+            Ops::NONE
+        } else {
+            Ops::ACCEPT.meet(way.permits(LISTENER))
+        }
+    }
+
+    // Watches the listener for what is wanted, if it isn't watched so already.
     fn watch_listener<N, W: Way<N>>(&mut self, way: &W) -> Result<(), ServeError>
         ensures connections { self.new.connections ≡ self.old.connections }
         ensures port { self.new.port ≡ self.old.port }
@@ -422,12 +446,12 @@ impl<'a> Proxy<'a> {
         let Some(port) = self.port else {
             return Ok(());
         };
-        let permitted = Ops::ACCEPT.meet(way.permits(LISTENER));
-        if self.interest != permitted {
-            if self.board.set(port, permitted).is_err() {
+        let wanted = self.wanted::<N, W>(way);
+        if self.interest != wanted {
+            if self.board.set(port, wanted).is_err() {
                 return Err(ServeError::Memory);
             }
-            self.interest = permitted;
+            self.interest = wanted;
         }
         Ok(())
     }
@@ -495,7 +519,7 @@ impl<'a> Proxy<'a> {
         ensures connections { self.new.connections ≡ self.old.connections }
         ensures board { IsSameBoard self.old.board self.new.board }
     {
-        if self.connections.slots.len() >= self.connections.conns as usize {
+        if self.connections.begun >= self.connections.conns {
             if let Some(port) = self.port {
                 self.board.unwatch(port);
                 way.close(net, LISTENER);

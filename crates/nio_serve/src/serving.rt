@@ -1,10 +1,11 @@
 //! Serving a plan.
-ghost use Rattle.std.specs.Prelude.{◌≡◌, ◌+◌, ◌*◌, ◌≤◌, IfOk, OnOk};
+ghost use Rattle.std.specs.Prelude.{◌≡◌, [], IfOk, OnOk};
 ghost use Rattle.nio_link.specs.Nets.{view_of};
 ghost use Rattle.nio_relay.specs.Plan.{IsServable};
 ghost use Rattle.nio_words.specs.Passes.{IsFirstPass};
 ghost use Rattle.nio_board.specs.Board.{IsSameSeat};
 ghost use Rattle.nio_serve.specs.Serving.{IsFresh, Serves};
+ghost use Rattle.nio_serve.specs.Watching.{HasRegisteredAll, HasRegisteredSome};
 
 use crate::proxy::{LISTENER, Proxy};
 use crate::way::Way;
@@ -27,8 +28,7 @@ pub enum ServeError {
     Memory,
 }
 
-/// A channel and a key for each link of 16,000 connections, with the listener; the number of a channel that was closed
-/// isn't given again.
+/// A channel and a key for each link of 16,000 slots, with the listener: a slot's numbers are given again.
 const LIMITS: Limits = Limits {
     callers: 2,
     selectors: 1,
@@ -42,7 +42,7 @@ const ME: CallerNo = CallerNo(0);
 // The board of the first caller of a new table. Nothing refuses it, since the limits have a caller and a selector.
 fn open_board<'a>(alloc: Global, words: &'a Words, pass: Pass) -> Result<Board<'a>, Refused>
     requires { IsFirstPass words.now pass }
-    ensures { IfOk result (λ board. board.registered ≡ 0) }
+    ensures { IfOk result (λ board. board.registered ≡ []) }
 {
     let mut pass = pass;
     match words.draw(&mut pass, ME) {
@@ -75,9 +75,9 @@ pub fn serve<R: Wait, N, W: Way<N>>(
     served
 }
 
-/// `serve` over a board on which no channel is registered yet, which it gives back. The board's channels are numbered
-/// as the net's. At every end no more channels were registered than a listener and two links for each connection of the
-/// plan, and where the plan was served, so many were.
+/// `serve` over a board on which no channel is registered yet, which it gives back. The board's channels are named as the
+/// net's. Those that were registered are the first of these: the listener, and then the two links of each connection, in
+/// the order of the accepts. Where the plan was served, all were registered.
 pub fn serve_on<'a, R: Wait, N, W: Way<N>>(
     rt: &R,
     alloc: Global,
@@ -88,11 +88,11 @@ pub fn serve_on<'a, R: Wait, N, W: Way<N>>(
 ) -> (Result<Served, ServeError>, Board<'a>)
     requires plan { IsServable plan }
     requires fresh { IsFresh (view_of W.Way net.old) }
-    requires unregistered { board.registered ≡ 0 }
+    requires unregistered { board.registered ≡ [] }
     ensures serves { Serves plan (view_of W.Way net.old) (view_of W.Way net.new) result.0 }
     ensures seat { IsSameSeat board.entry result.1 }
-    ensures registered { OnOk result.0 (result.1.registered ≡ 2 * plan.conns + 1) }
-    ensures within { result.1.registered ≤ 2 * plan.conns + 1 }
+    ensures registered { OnOk result.0 (HasRegisteredAll (W.accepted net.old) (W.accepted net.new) result.1.registered) }
+    ensures within { HasRegisteredSome (W.accepted net.old) (W.accepted net.new) result.1.registered }
 {
     let mut proxy = match Proxy::open(rt, alloc, board, plan) {
         Ok(proxy) => proxy,

@@ -30,6 +30,7 @@ const PLAN: ProxyPlan = ProxyPlan {
         port: 80,
     },
     conns: 3,
+    at_once: 16_000,
 };
 
 const ENDS: ProxyPlan = ProxyPlan {
@@ -41,7 +42,14 @@ const ENDS: ProxyPlan = ProxyPlan {
         ip: [255, 255, 255, 255],
         port: 65_535,
     },
+    conns: u32::MAX,
+    at_once: 16_000,
+};
+
+/// As many connections as a group's ways serve.
+const MOST_OF_GROUP: ProxyPlan = ProxyPlan {
     conns: 16_000,
+    ..ENDS
 };
 
 const PACKETS: PacketPlan = PacketPlan {
@@ -81,7 +89,7 @@ const COMMANDS: &[(&str, Command)] = &[
         Command::Proxy(PLAN, ProxyWay::Select),
     ),
     (
-        "proxy --way select --listen 0.0.0.0:1 --target 255.255.255.255:65535 --conns 16000",
+        "proxy --way select --listen 0.0.0.0:1 --target 255.255.255.255:65535 --conns 4294967295",
         Command::Proxy(ENDS, ProxyWay::Select),
     ),
     (
@@ -111,6 +119,18 @@ const COMMANDS: &[(&str, Command)] = &[
     (
         "proxy --workers=15 --conns=3 --listen 127.0.0.1:8080 --target 10.0.0.2:80 --way=many",
         Command::Proxy(PLAN, ProxyWay::Many(15)),
+    ),
+    (
+        "proxy --way many --listen 0.0.0.0:1 --target 255.255.255.255:65535 --conns 4294967295",
+        Command::Proxy(ENDS, ProxyWay::Many(4)),
+    ),
+    (
+        "proxy --way group --listen 0.0.0.0:1 --target 255.255.255.255:65535 --conns 16000",
+        Command::Proxy(MOST_OF_GROUP, ProxyWay::Group(4)),
+    ),
+    (
+        "proxy --way future --listen 0.0.0.0:1 --target 255.255.255.255:65535 --conns 16000",
+        Command::Proxy(MOST_OF_GROUP, ProxyWay::Future),
     ),
     (
         "packets --listen 127.0.0.1:7000 --local 127.0.0.1:7001 --target 10.0.0.2:9000 --count 1000000",
@@ -157,7 +177,10 @@ const OTHER_LINES: &[&str] = &[
     "proxy --way select --listen 127.0.0.1:1 --target 127.0.0.1:2 --conns=",
     "proxy --way select --listen 127.0.0.1:1 --target 127.0.0.1:2 --conns ",
     "proxy --way select --listen 127.0.0.1:1 --target 127.0.0.1:2 --conns 0",
-    "proxy --way select --listen 127.0.0.1:1 --target 127.0.0.1:2 --conns 16001",
+    "proxy --way select --listen 127.0.0.1:1 --target 127.0.0.1:2 --conns 4294967296",
+    "proxy --way many --listen 127.0.0.1:1 --target 127.0.0.1:2 --conns 4294967296",
+    "proxy --way group --listen 127.0.0.1:1 --target 127.0.0.1:2 --conns 16001",
+    "proxy --way future --listen 127.0.0.1:1 --target 127.0.0.1:2 --conns 16001",
     "proxy --way select --listen 127.0.0.1:1 --target 127.0.0.1:2 --conns 01",
     "proxy --way select --listen 127.0.0.1:1 --target 127.0.0.1:2 --conns +1",
     "proxy --way groups --listen 127.0.0.1:1 --target 127.0.0.1:2 --conns 1",

@@ -2,7 +2,7 @@
 ghost use Rattle.std.specs.Prelude.{◌≡◌, ◌+◌, ◌*◌, IfOk, IsSomeAnd};
 ghost use Rattle.nio_link.specs.Nets.{view_of};
 ghost use Rattle.nio_jobs.specs.ByJobs.{IsNew, exchange_of};
-ghost use Rattle.nio_relay.specs.Plan.{IsServable};
+ghost use Rattle.nio_jobs.specs.Plans.{HasSlotForEach};
 ghost use Rattle.nio_tickets.specs.Answers.{serve_answer_of};
 ghost use Rattle.nio_tickets.specs.Handling.{opened};
 ghost use Rattle.nio_serve.specs.Serving.{IsFresh, Serves};
@@ -31,7 +31,7 @@ pub enum FutureError {
 
 // How many channels the desk of this plan has: the listener's, and two for each connection.
 fn channels_of(plan: ProxyPlan) -> u32
-    requires { IsServable plan }
+    requires { HasSlotForEach plan }
     ensures { result ≡ 2 * plan.conns + 1 }
 {
     2 * plan.conns + 1
@@ -39,7 +39,7 @@ fn channels_of(plan: ProxyPlan) -> u32
 
 // How many tickets of this plan's desk are out at most: of an accept, and of a read and a write for each stream.
 fn flight_of(plan: ProxyPlan) -> u32
-    requires { IsServable plan }
+    requires { HasSlotForEach plan }
     ensures { result ≡ 4 * plan.conns + 1 }
 {
     4 * plan.conns + 1
@@ -51,7 +51,7 @@ fn open_way(
     alloc: Global,
     plan: ProxyPlan,
 ) -> Result<ByJobs<Clerk<'_>>, AllocError>
-    requires { IsServable plan }
+    requires { HasSlotForEach plan }
     ensures new { IfOk result (λ way. IsNew (exchange_of way) (2 * plan.conns + 1) (4 * plan.conns + 1) way) }
     ensures clerk { IfOk result (λ way. IsSomeAnd (exchange_of way)
         (λ state. state
@@ -91,7 +91,7 @@ pub fn serve_future<R, N: Net>(
 ) -> Result<Served, FutureError>
 where
     R: Wait + RandomSource + AllocGlobal,
-    requires plan { IsServable plan }
+    requires plan { HasSlotForEach plan }
     requires fresh { IsFresh (view_of N.Net net.old) }
     ensures { Serves plan (view_of N.Net net.old) (view_of N.Net net.new) (serve_answer_of result) }
 {

@@ -24,6 +24,7 @@ const PLAN: ProxyPlan = ProxyPlan {
     listen: ANYWHERE,
     target: ANYWHERE,
     conns: 2,
+    at_once: 2,
 };
 
 /// What fails beside the first target, which takes ten bytes, and the answer.

@@ -62,6 +62,7 @@ fn relays_two(rt: HostRuntime) -> Result<(), Fail> {
         listen: ANYWHERE,
         target: ANYWHERE,
         conns: 2,
+        at_once: 2,
     };
     let mut jobs = JobNet::over(net_of_two(rt.alloc())?);
     let served = serve_future(&rt, rt.alloc(), &mut jobs, plan);

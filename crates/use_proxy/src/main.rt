@@ -38,6 +38,7 @@ fn proxy<R: AllocGlobal + Clock + Copy + Net + Wait>(
         listen,
         target,
         conns: 1,
+        at_once: 1,
     };
     Ok(serve_select(rt, rt.alloc(), &mut net, plan)?)
 }

@@ -1,99 +1,132 @@
 //! The calls on the table: watching a channel, and leaving it.
-ghost use Rattle.std.specs.Prelude.{◌≡◌, ◌^◌, ◌≤◌, [], ◌∷◌, IfOk, MatchOption, None, OnErr, OnOk, Some};
+ghost use Rattle.std.specs.Prelude.{◌≡◌, ◌^◌, ◌≤◌, [], ◌∷◌, IfOk, MatchOption, OnErr, OnOk};
 ghost use Rattle.nio_history.specs.PassViews.{HasChannel};
 ghost use Rattle.nio_words.specs.Views.{view};
-ghost use Rattle.nio_board.specs.Board.{IsAtRest, board_of, next_channel, one_more};
+ghost use Rattle.nio_board.specs.Board.{IsAtRest, board_of, one_more};
 ghost use Rattle.nio_board.specs.BoardCalls.{AreMade, CancelsKey, ClosesChannel, FailsToFind, FailsToOpen};
-ghost use Rattle.nio_board.specs.BoardCalls.{FailsToRegister, FailsToSet};
-ghost use Rattle.nio_board.specs.BoardCalls.{FailsToTake, FailsToWatch, HasMade, SetsInterest, Unwatches};
-ghost use Rattle.nio_board.specs.BoardCalls.{WatchesChannel, finds_channel, registers, takes};
-ghost use Rattle.nio_base.specs.Numbers.{first_channel};
-ghost use Rattle.nio_board.specs.Called.{channel_in};
+ghost use Rattle.nio_board.specs.BoardCalls.{FailsToRegister, FailsToReopen, FailsToSet, FailsToTake, FailsToWatch};
+ghost use Rattle.nio_board.specs.BoardCalls.{HasMade, SetsInterest, Takes, Unwatches, WatchesChannel};
+ghost use Rattle.nio_board.specs.BoardCalls.{after_it, finds_channel, opens, registers, reopens};
+ghost use Rattle.nio_board.specs.Called.{table_channel};
 
 use super::{Port, Refused, Station};
-use nio_base::{ChanId, ChanNo, KeyNo, Kind, Ops};
-use nio_channel::{close_channel, open_channel, register, set_blocking};
+use nio_base::{ChanId, KeyNo, Kind, Ops};
+use nio_channel::{close_channel, open_channel, register, reopen_channel, set_blocking};
 use nio_keys::{cancel, find, find_channel, set_interest};
 use nio_words::{Pass, Words};
 use std::sync::Wait;
 
 impl Station {
     // The table's channel that is a channel of the board. None where its number is too large.
-    fn table_channel(&self, chan: ChanNo) -> Option<ChanNo>
-        ensures { MatchOption result (2 ^ 32 ≤ (channel_in self.now.deal chan).0)
-            (λ c. c ≡ channel_in self.now.deal chan) }
+    fn table_channel(&self, chan: ChanId) -> Option<ChanId>
+        ensures { MatchOption result (2 ^ 32 ≤ (table_channel self.now.deal chan).number.0)
+            (λ c. c ≡ table_channel self.now.deal chan) }
     {
-        match self.deal {
-            None => Some(chan),
-            Some(deal) => deal.channel(chan),
+        let Some(deal) = self.deal else {
+            return Some(chan);
+        };
+        match deal.channel(chan.number) {
+            Some(number) => Some(ChanId {
+                number,
+                serial: chan.serial,
+            }),
+            None => None,
         }
     }
 }
 
-// Registers the next channel of the board, and closes it where that is refused.
-pub(super) fn watch_next<R: Wait>(
+// Registers a channel of the board.
+pub(super) fn watch_channel<R: Wait>(
     rt: &R,
     w: &Words,
     p: &mut Pass,
     at: &Station,
+    chan: ChanId,
     kind: Kind,
     ops: Ops,
 ) -> Result<KeyNo, Refused>
     requires { IsAtRest (board_of w.now p.old at.now) }
-    ensures watched { OnOk result (IsAtRest (board_of w.now p.new (one_more at.now))) }
+    ensures watched { OnOk result (IsAtRest (board_of w.now p.new (one_more at.now chan))) }
     ensures refused { OnErr result (IsAtRest (board_of w.now p.new at.now)) }
     ensures made { IfOk result (λ key. HasMade (board_of w.now p.old at.now) (board_of w.now p.new at.now)
-        (WatchesChannel at.now.deal at.now.selector.number kind (next_channel at.now) ops key)) }
+        (WatchesChannel at.now.deal at.now.selector.number kind (table_channel at.now.deal chan) ops key)) }
     ensures failed { OnErr result (HasMade (board_of w.now p.old at.now) (board_of w.now p.new at.now)
-        (FailsToWatch at.now.deal at.now.selector.number kind (next_channel at.now) ops)) }
+        (FailsToWatch at.now.deal at.now.selector.number kind (table_channel at.now.deal chan) ops)) }
 {
-    let chan = take_next(w, p, at, kind)?;
-    if set_blocking(rt, w, p, at.caller, chan, false).is_err() {
-        close_channel(w, p, at.caller, chan);
-        return Err(Refused);
+    match at.table_channel(chan) {
+        Some(own) => watch_own(rt, w, p, at, own, kind, ops),
+        None => Err(Refused),
     }
-    register_made(rt, w, p, at, chan, ops)
 }
 
-// The table's channel that is the next one of the board, the first of its number: it opens it, where it has no deal.
-fn take_next(w: &Words, p: &mut Pass, at: &Station, kind: Kind) -> Result<ChanId, Refused>
+// Registers a channel of the table, and closes it where that is refused.
+fn watch_own<R: Wait>(
+    rt: &R,
+    w: &Words,
+    p: &mut Pass,
+    at: &Station,
+    own: ChanId,
+    kind: Kind,
+    ops: Ops,
+) -> Result<KeyNo, Refused>
+    requires { IsAtRest (board_of w.now p.old at.now) }
+    ensures watched { (c : ChanId) → own ≡ table_channel at.now.deal c
+        → OnOk result (IsAtRest (board_of w.now p.new (one_more at.now c))) }
+    ensures refused { OnErr result (IsAtRest (board_of w.now p.new at.now)) }
+    ensures made { IfOk result (λ key. HasMade (board_of w.now p.old at.now) (board_of w.now p.new at.now)
+        (WatchesChannel at.now.deal at.now.selector.number kind own ops key)) }
+    ensures failed { OnErr result (HasMade (board_of w.now p.old at.now) (board_of w.now p.new at.now)
+        (FailsToWatch at.now.deal at.now.selector.number kind own ops)) }
+{
+    take(w, p, at, own, kind)?;
+    if set_blocking(rt, w, p, at.caller, own, false).is_err() {
+        close_channel(w, p, at.caller, own);
+        return Err(Refused);
+    }
+    register_made(rt, w, p, at, own, ops)
+}
+
+// Has a channel of the table. The first one of a number is opened, or found where the board has a deal.
+fn take(w: &Words, p: &mut Pass, at: &Station, chan: ChanId, kind: Kind) -> Result<(), Refused>
     requires { IsAtRest (board_of w.now p.old at.now) }
     ensures rest { IsAtRest (board_of w.now p.new at.now) }
-    ensures next { IfOk result (λ c. c ≡ first_channel (next_channel at.now)) }
-    ensures made { IfOk result (HasChannel (view w.now p.new)) }
-    ensures taken { OnOk result (AreMade (board_of w.now p.old at.now) (board_of w.now p.new at.now)
-        (takes at.now.deal kind (next_channel at.now) ∷ [])) }
+    ensures has { OnOk result (HasChannel (view w.now p.new) chan) }
+    ensures taken { OnOk result (HasMade (board_of w.now p.old at.now) (board_of w.now p.new at.now)
+        (Takes kind at.now.deal chan)) }
     ensures failed { OnErr result (HasMade (board_of w.now p.old at.now) (board_of w.now p.new at.now)
-        (FailsToTake kind (next_channel at.now) at.now.deal)) }
+        (FailsToTake kind at.now.deal chan)) }
 {
-    let Some(next) = at.table_channel(ChanNo(at.registered)) else {
-        return Err(Refused);
-    };
+    if chan.serial > 0 {
+        let before = ChanId {
+            number: chan.number,
+            serial: chan.serial - 1,
+        };
+        return reopen(w, p, at, before);
+    }
     match at.deal {
-        None => open_next(w, p, at, next, kind),
-        Some(_) => find_made(w, p, at, next),
+        None => open_first(w, p, at, chan, kind),
+        Some(_) => find_made(w, p, at, chan),
     }
 }
 
 // Opens the table's next channel, where that is the one that is asked for.
-fn open_next(
+fn open_first(
     w: &Words,
     p: &mut Pass,
     at: &Station,
-    chan: ChanNo,
+    chan: ChanId,
     kind: Kind,
-) -> Result<ChanId, Refused>
+) -> Result<(), Refused>
     requires { IsAtRest (board_of w.now p.old at.now) }
     ensures rest { IsAtRest (board_of w.now p.new at.now) }
-    ensures its { IfOk result (λ c. c ≡ first_channel chan) }
-    ensures made { IfOk result (HasChannel (view w.now p.new)) }
+    ensures has { OnOk result (HasChannel (view w.now p.new) chan) }
     ensures taken { OnOk result (AreMade (board_of w.now p.old at.now) (board_of w.now p.new at.now)
-        (takes None kind chan ∷ [])) }
+        (opens kind chan ∷ [])) }
     ensures failed { OnErr result (HasMade (board_of w.now p.old at.now) (board_of w.now p.new at.now)
         (FailsToOpen kind chan)) }
 {
     match open_channel(w, p, at.caller, kind) {
-        Ok(made) if made == ChanId::first(chan) => Ok(made),
+        Ok(made) if made == chan => Ok(()),
         Ok(made) => {
             close_channel(w, p, at.caller, made);
             Err(Refused)
@@ -103,49 +136,61 @@ fn open_next(
 }
 
 // Finds a channel that was opened.
-fn find_made(w: &Words, p: &mut Pass, at: &Station, chan: ChanNo) -> Result<ChanId, Refused>
+fn find_made(w: &Words, p: &mut Pass, at: &Station, chan: ChanId) -> Result<(), Refused>
     requires { IsAtRest (board_of w.now p.old at.now) }
     ensures rest { IsAtRest (board_of w.now p.new at.now) }
-    ensures its { IfOk result (λ c. c ≡ first_channel chan) }
-    ensures made { IfOk result (HasChannel (view w.now p.new)) }
+    ensures has { OnOk result (HasChannel (view w.now p.new) chan) }
     ensures taken { OnOk result (AreMade (board_of w.now p.old at.now) (board_of w.now p.new at.now)
-        (finds_channel chan (Some (first_channel chan)) ∷ [])) }
+        (finds_channel chan (Some chan) ∷ [])) }
     ensures failed { OnErr result (HasMade (board_of w.now p.old at.now) (board_of w.now p.new at.now)
         (FailsToFind chan)) }
 {
-    let Some(made) = find_channel(w, p, at.caller, chan.0, 0) else {
+    let Some(made) = find_channel(w, p, at.caller, chan.number.0, chan.serial) else {
         return Err(Refused);
     };
-    if made == ChanId::first(chan) {
-        Ok(made)
-    } else {
-        Err(Refused)
+    if made == chan { Ok(()) } else { Err(Refused) }
+}
+
+// Opens the channel after this one of the same number, where this one is closed, and its keys have left their key sets.
+fn reopen(w: &Words, p: &mut Pass, at: &Station, before: ChanId) -> Result<(), Refused>
+    requires { IsAtRest (board_of w.now p.old at.now) }
+    ensures rest { IsAtRest (board_of w.now p.new at.now) }
+    ensures has { OnOk result (HasChannel (view w.now p.new) (after_it before)) }
+    ensures taken { OnOk result (AreMade (board_of w.now p.old at.now) (board_of w.now p.new at.now)
+        (reopens before)) }
+    ensures failed { OnErr result (HasMade (board_of w.now p.old at.now) (board_of w.now p.new at.now)
+        (FailsToReopen before)) }
+{
+    find_made(w, p, at, before)?;
+    match reopen_channel(w, p, at.caller, before) {
+        Ok(_after) => Ok(()),
+        Err(_refusal) => Err(Refused),
     }
 }
 
-// Registers the next channel of the board, which is this one of the table, and closes it where that is refused.
+// Registers a channel of the table, and closes it where that is refused.
 fn register_made<R: Wait>(
     rt: &R,
     w: &Words,
     p: &mut Pass,
     at: &Station,
-    chan: ChanId,
+    own: ChanId,
     ops: Ops,
 ) -> Result<KeyNo, Refused>
     requires rest { IsAtRest (board_of w.now p.old at.now) }
-    requires next { chan ≡ first_channel (next_channel at.now) }
-    requires channel { HasChannel (view w.now p.old) chan }
-    ensures watched { OnOk result (IsAtRest (board_of w.now p.new (one_more at.now))) }
+    requires channel { HasChannel (view w.now p.old) own }
+    ensures watched { (c : ChanId) → own ≡ table_channel at.now.deal c
+        → OnOk result (IsAtRest (board_of w.now p.new (one_more at.now c))) }
     ensures refused { OnErr result (IsAtRest (board_of w.now p.new at.now)) }
     ensures made { IfOk result (λ key. AreMade (board_of w.now p.old at.now) (board_of w.now p.new at.now)
-        (registers at.now.selector.number (next_channel at.now) ops key ∷ [])) }
+        (registers at.now.selector.number own ops key ∷ [])) }
     ensures failed { OnErr result (HasMade (board_of w.now p.old at.now) (board_of w.now p.new at.now)
-        (FailsToRegister at.now.selector.number (next_channel at.now) ops)) }
+        (FailsToRegister at.now.selector.number own ops)) }
 {
-    match register(rt, w, p, at.caller, at.selector.number(), chan, ops, 0) {
+    match register(rt, w, p, at.caller, at.selector.number(), own, ops, 0) {
         Ok(key) => Ok(key),
         Err(_refusal) => {
-            close_channel(w, p, at.caller, chan);
+            close_channel(w, p, at.caller, own);
             Err(Refused)
         }
     }
@@ -199,13 +244,13 @@ fn cancel_key(w: &Words, p: &mut Pass, at: &Station, key: KeyNo)
     }
 }
 
-fn close_made(w: &Words, p: &mut Pass, at: &Station, chan: ChanNo)
+fn close_made(w: &Words, p: &mut Pass, at: &Station, chan: ChanId)
     requires { IsAtRest (board_of w.now p.old at.now) }
     ensures rest { IsAtRest (board_of w.now p.new at.now) }
     ensures made { HasMade (board_of w.now p.old at.now) (board_of w.now p.new at.now)
         (ClosesChannel chan) }
 {
-    if let Some(made) = find_channel(w, p, at.caller, chan.0, 0) {
+    if let Some(made) = find_channel(w, p, at.caller, chan.number.0, chan.serial) {
         close_channel(w, p, at.caller, made);
     }
 }

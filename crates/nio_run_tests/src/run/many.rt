@@ -21,13 +21,14 @@ const CONNS: usize = 3;
 /// How many bytes each client sends.
 const SENT: usize = 5_000;
 
-/// Which connection isn't made, which call of `accept` fails, the words on the workers, how many nets they are given,
-/// how the program ends, and for each net how many bytes arrive at the targets of its first two connections.
+/// Which connection isn't made, which call of `accept` fails, how many connections are awaited, the words on the workers,
+/// how many nets they are given, how the program ends, and for each net how many bytes arrive at the targets of its first two connections.
 #[derive(Clone, Copy)]
 struct Row {
     name: &'static str,
     unconnected: Option<usize>,
     fail_accept: Option<u64>,
+    conns: &'static str,
     workers: &'static [&'static str],
     nets: usize,
     status: u8,
@@ -40,6 +41,7 @@ const DEALT_OUT: Row = Row {
     name: "links_dealt_out",
     unconnected: None,
     fail_accept: None,
+    conns: "3",
     workers: &["--workers", "2"],
     nets: 3,
     status: 0,
@@ -69,6 +71,15 @@ const ROWS: &[Row] = &[
         status: 6,
         written: "",
         arrived: &[(0, 0)],
+        ..DEALT_OUT
+    },
+    // those that have come are served
+    Row {
+        name: "many_awaited",
+        fail_accept: Some(3),
+        conns: "4294967295",
+        status: 7,
+        written: "",
         ..DEALT_OUT
     },
     Row {
@@ -137,7 +148,8 @@ where
         "--way=many",
         "--listen=127.0.0.1:8080",
         "--target=127.0.0.1:80",
-        "--conns=3",
+        "--conns",
+        row.conns,
     ]?;
     words.extend_from_slice(row.workers)?;
     let mut source = MemorySource::make(Vec::new(alloc), 1, Vec::new(alloc));

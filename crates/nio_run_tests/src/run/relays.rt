@@ -120,11 +120,30 @@ const RELAY_ACCEPT_FAILS: Row = Row {
     ..ONE
 };
 
+/// A client that is accepted, and not served.
+const UNSERVED: Peer = Peer {
+    at_target: 0,
+    at_client: 0,
+    is_shut: false,
+    ..SHORT
+};
+
+/// As many connections as there may be. The net has numbers for two, so the listener fails with the third.
+const MANY_AWAITED: Row = Row {
+    name: "many_awaited",
+    peers: &[UNSERVED, UNSERVED],
+    conns: "4294967295",
+    status: 7,
+    written: "",
+    ..ONE
+};
+
 /// The rows that end alike in every way.
 const ALIKE: &[Row] = &[TWO, RELAY_ONE, RELAY_ONE_OF_TWO_FAILS, RELAY_ACCEPT_FAILS];
 
 const ROWS: &[Row] = &[
     ONE,
+    MANY_AWAITED,
     Row {
         name: "empty_connection",
         peers: &[Peer {

@@ -1,4 +1,4 @@
-use Rattle.std.proofs.Common.{◌+◌, ◌≤◌, inr, sym, ap, subst, ◌∙◌, arith}
+use Rattle.std.proofs.Common.{◌≤◌, [], ◌∷◌, ◌++◌, inr, sym, ap, subst, ◌∙◌, arith}
 use Rattle.nio_link.specs.Nets.{view_of}
 use Rattle.nio_link.specs.declared.place.Place.{Place}
 use Rattle.nio_serve.proofs.Promise.{fresh_still, listen_role}
@@ -56,4 +56,4 @@ pub returns-clause-registered : goal.returns-clause-registered
 returns-clause-registered g c =
     on_ok_any c.deal_all-outcome.result
     (c.deal_all-outcome.ensures.board.registered
-    ∙ (c.in-Ok.ensures.more ∙ ap (λ n. n + 1) c.requires.unregistered))
+    ∙ (c.in-Ok.ensures.more ∙ ap (λ l. l ++ listener ∷ []) c.requires.unregistered))

@@ -8,7 +8,7 @@ pub loop-init : goal.loop-init
 loop-init g c = record {
   listens = refl;
   accepting = c.requires.accepting;
-  within = c.requires.few.0;
+  within = c.requires.few;
   accepted = accepts_none _
       c.args.number.now c.args.net.now c.args.net.now (λ k. refl) refl (omega arith) (omega arith);
   dealt = deals_none c.args.number.now c.args.lines.now;

@@ -1,10 +1,19 @@
-use Rattle.std.proofs.Common.{ap, ◌∙◌}
+use Rattle.std.proofs.Common.{refl, ap, ◌∙◌}
 use Rattle.nio_link.proofs.Channels.{all_same, channel_is_or_not}
 use Rattle.nio_link.specs.declared.place.Place.{Place}
 use Rattle.nio_link.specs.declared.place.Standing.TheVariants as standing
-use Rattle.nio_reactor.proofs.Asked.{accepting_one, accepting_still, came, not_come, on_err_any}
+use Rattle.nio_reactor.proofs.Asked.{accepting_one, accepting_still, came, next_free, not_come, on_err_any}
 use Rattle.nio_reactor.proofs.Nets.{members}
+use Rattle.nio_reactor.specs.Accepting.{client_at}
 use Rattle.nio_reactor.proofs.handed.accept_link.Goals as goal
+
+pub accept-requires : goal.accept-requires
+accept-requires g c = record {
+  ready = c.requires.ready;
+  listens = c.requires.listens;
+  free = next_free (members g.N.Poller g.N.Net) c.args.number c.args.net.now (client_at c.args.number)
+      c.requires.accepting refl;
+}
 
 pub returns-in_err-accept-clause-failing : goal.returns-in_err-accept-clause-failing
 returns-in_err-accept-clause-failing g c =
@@ -21,7 +30,7 @@ returns-then-not-branch-clause-early g c = λ no.
 
 pub returns-clause-come : goal.returns-clause-come
 returns-clause-come g c = λ yes.
-    accepting_one _ c.args.number c.first-client.result _ _ c.first-client.ensures c.requires.accepting
+    accepting_one _ c.args.number (client_at c.args.number) _ _ refl c.requires.accepting
     (λ k. c.take_out.ensures.links k ∙ c.accept.ensures.links k)
     (c.in-Some.ensures.place
     ∙ ap (λ (p : Place). let q : Place = record { role = p.role; standing = standing.Gone } in q)

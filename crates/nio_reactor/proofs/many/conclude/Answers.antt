@@ -1,7 +1,7 @@
-use Rattle.std.proofs.Common.{◌≤◌, ◌∙◌, inr, refl, sym, subst, All, IfOk, IsOk}
+use Rattle.std.proofs.Common.{◌∙◌, inr, refl, sym, subst, IsOk}
 use Rattle.nio_serve.specs.declared.serving.ServeError.TheVariants.{Memory}
 use Rattle.nio_reactor.proofs.Adding.{concludes_sum}
-use Rattle.nio_reactor.specs.Working.{AddsUp, HasEnded, NoneHasEnded}
+use Rattle.nio_reactor.specs.Working.{AddsUp, CountFew, HasEnded, NoneHasEnded}
 use Rattle.nio_reactor.proofs.many.conclude.Goals as goal
 
 pub returns-then-lacks_memory : goal.returns-then-lacks_memory
@@ -12,7 +12,7 @@ returns-then-lacks_memory g c =
 
 pub add_up-requires-clause-faults : goal.add_up-requires-clause-faults
 add_up-requires-clause-faults g c κs within =
-    subst (All (λ x. IfOk x.lane.outcome (λ served. served.faults ≤ 16000))) (sym c.deref-2.ensures.value)
+    subst (CountFew (λ x. x.lane.outcome) c.args.conns) (sym c.deref-2.ensures.value)
     c.requires.faults
 
 pub add_up-requires-clause-memory : goal.add_up-requires-clause-memory

@@ -1,19 +1,22 @@
-use Rattle.std.proofs.Common.{◌≡◌, ◌≤◌, ◌∙◌, ℕ, false, IfOk, IsOk, length, map, ap, slice_get, subst, sym, Some, arith}
+use Rattle.std.proofs.Common.{◌≡◌, ◌*◌, ◌<◌, ◌≤◌, ◌∙◌, ℕ, false, All, IfOk, IsOk, length, map, ap, slice_get, subst, sym, Some, arith}
 use Rattle.std.proofs.lemmas.List.{length-map}
 use Rattle.std.proofs.lemmas.Result.{IfOk-weaker}
 use Rattle.nio_orderly.proofs.CallLists.{whole_is_orderly}
 use Rattle.nio_words.specs.Passes.{seen}
 use Rattle.nio_reactor.proofs.Accounting.{Shown, accounts_for, are_own, early_hand, handed_of}
-use Rattle.nio_reactor.proofs.Accounting.{none_accounted, on_time, same_count, sent_all}
-use Rattle.nio_reactor.proofs.Concluding.{few_faults, fresh_lanes, none_done, on_ok, serves_of}
+use Rattle.nio_reactor.proofs.Accounting.{none_accounted, on_time, own_at, same_count, sent_all, within_at}
+use Rattle.nio_reactor.proofs.Concluding.{apart_at, few_faults, fresh_lanes, none_done, on_ok, serves_of}
 use Rattle.nio_reactor.proofs.Gathered.{Settled, answered_with, passes_after, seats_of, settled}
-use Rattle.nio_reactor.proofs.Handing.{none_handed}
+use Rattle.nio_reactor.proofs.Handing.{all_clients, clients_at, none_handed}
+use Rattle.nio_reactor.proofs.Lists.{element}
 use Rattle.nio_reactor.proofs.Nets.{members}
-use Rattle.nio_reactor.specs.Dealing.{share}
-use Rattle.nio_reactor.specs.Handing.{AccountsForLinks, AreHanded}
+use Rattle.nio_reactor.proofs.Placed.{AreClients}
+use Rattle.nio_reactor.specs.Dealing.{share, slots_of}
+use Rattle.nio_reactor.specs.Handing.{AccountsForLinks, AreHanded, put_at}
 use Rattle.nio_reactor.specs.Many.{ServesMany}
 use Rattle.nio_reactor.specs.Placing.{table_for}
 use Rattle.nio_reactor.specs.Receiving.{in_hand, is_early}
+use Rattle.nio_reactor.specs.Working.{clients_of}
 use Rattle.nio_reactor.specs.declared.many.ManyError.TheVariants.{Memory}
 use Rattle.nio_reactor.proofs.many.serve_between.Given.{Over}
 use Rattle.nio_reactor.proofs.many.serve_between.Goals as goal
@@ -42,12 +45,14 @@ serve_lanes-accepted-requires-clause-seats g c κs within =
 
 pub conclude-outcome-requires-clause-faults : goal.conclude-outcome-requires-clause-faults
 conclude-outcome-requires-clause-faults g c κs within =
-    few_faults (members g.N.Poller g.N.Net) c.args.outgoing.plan (λ x. x.lane.net) (λ x. x.lane.put) (λ x. is_early x.lane.heard) (λ x. x.lane.outcome) _ _
-    c.serve_lanes-accepted.ensures.count c.serve_lanes-accepted.ensures.worked c.requires.plan.few_connections
+    few_faults (members g.N.Poller g.N.Net) c.args.outgoing.plan (λ x. x.lane.net) (λ x. x.lane.put)
+    (λ x. is_early x.lane.heard) (λ x. x.lane.outcome) _ _ c.serve_lanes-accepted.ensures.count
+    c.serve_lanes-accepted.ensures.worked
 
 pub give_back-requires-clause-passes : goal.give_back-requires-clause-passes
 give_back-requires-clause-passes g c κs within =
-    passes_after _ c.args.outgoing.plan (λ x. x.pass) (λ x. x.lane.outcome) _ _ c.serve_lanes-accepted.ensures.count
+    passes_after _ c.args.outgoing.plan (λ x. x.pass) (λ x. x.lane.put) (λ x. x.lane.outcome) _ _
+    c.serve_lanes-accepted.ensures.count
     c.serve_lanes-accepted.ensures.leaves
 
 pub give_back-requires-clause-own : goal.give_back-requires-clause-own
@@ -66,13 +71,17 @@ lines_are g c =
 
 shown_of : (g : Over) (c : goal.After-drop-outgoing-2 g)
     → Shown (λ x. x.lane.line) (λ x. x.lane.worker) (λ x. x.lane.put) (λ x. in_hand x.lane.heard)
-    (λ x. is_early x.lane.heard) (λ x. x.lane.left) (length c.args.more.now.items) c.args.outgoing.plan.conns c.serve_lanes-accepted.ensures.sent.count
+    (λ x. is_early x.lane.heard) (λ x. x.lane.left) (length c.args.more.now.items) c.args.outgoing.plan.conns
+    (slots_of (length c.args.more.now.items) c.args.outgoing.plan) c.serve_lanes-accepted.ensures.sent.count
     c.serve_lanes-accepted.new.workers.items c.serve_lanes-accepted.new.outgoing.lines.items
 shown_of g c = record {
   numbers = λ x. x.lane.numbers;
   own = λ x. x.lane.own;
   count = λ x. x.lane.count ∙ ap (λ k. share k x.lane.worker g.K.Lines.conns) (lines_are g c)
       ∙ ap (share (length c.args.more.now.items) x.lane.worker) (sym c.requires.conns);
+  within = λ x. subst (λ k. All (λ h. h.client.number.0 < 2 * k) x.lane.put)
+      (x.lane.slots_are ∙ ap (λ k. share k x.lane.worker g.K.Lines.slots) (lines_are g c)
+      ∙ ap (share (length c.args.more.now.items) x.lane.worker) (sym c.requires.slots)) x.lane.within;
   in_time = λ x is. (early_hand x.lane.heard is, x.lane.early is);
   lanes_are = c.serve_lanes-accepted.ensures.count ∙ workers_are g c;
   entries_are = c.serve_lanes-accepted.ensures.sent.lines ∙ c.requires.entries;
@@ -101,7 +110,7 @@ all_sent g c ok =
 never_early : (g : Over) (c : goal.After-drop-outgoing-2 g) → IsOk c.serve_lanes-accepted.result → (v : ℕ) (x : _)
     → slice_get c.serve_lanes-accepted.new.workers.items v ≡ Some x → is_early x.lane.heard ≡ false
 never_early g c ok = on_time (λ x. x.lane.line) (λ x. x.lane.worker) (λ x. x.lane.put) (λ x. in_hand x.lane.heard)
-    (λ x. is_early x.lane.heard) (λ x. x.lane.left) _ _ _ _ _ (shown_of g c) (all_sent g c ok)
+    (λ x. is_early x.lane.heard) (λ x. x.lane.left) _ _ _ _ _ _ (shown_of g c) (all_sent g c ok)
 
 pub returns-clause-serves : goal.returns-clause-serves
 returns-clause-serves g c =
@@ -124,7 +133,7 @@ returns-clause-handed g c =
     (subst (λ l. AreHanded (members g.N.Poller g.N.Net) c.args.outgoing.plan.conns l c.args.handed.now
     c.list_handovers.new.handed c.conclude-outcome.result) (sym c.give_back.ensures.nets)
     (handed_of (λ x. x.lane.line) (λ x. x.lane.worker) (λ x. x.lane.put) (λ x. in_hand x.lane.heard)
-    (λ x. is_early x.lane.heard) (λ x. x.lane.left) _ _ _ _ _ (shown_of g c) c.args.outgoing.plan
+    (λ x. is_early x.lane.heard) (λ x. x.lane.left) _ _ _ _ _ _ (shown_of g c) c.args.outgoing.plan
     (λ x. x.lane.outcome) c.in-Ok.workers.items (workers_are g c) c.serve_lanes-accepted.ensures.received
     (members g.N.Poller g.N.Net) (λ x. x.lane.net) c.serve_lanes-accepted.ensures.worked (few_sent g c)
     c.args.handed.now c.list_handovers.new.handed c.list_handovers.ensures c.serve_lanes-accepted.result
@@ -142,26 +151,48 @@ returns-clause-links g c =
     (g.N.Net.accepted c.serve_lanes-accepted.new.net) (map (λ x. x.lane.net) c.in-Ok.workers.items) l
     c.args.handed.now c.list_handovers.new.handed c.conclude-outcome.result) (sym c.give_back.ensures.nets)
     (accounts_for (λ x. x.lane.line) (λ x. x.lane.worker) (λ x. x.lane.put) (λ x. in_hand x.lane.heard)
-    (λ x. is_early x.lane.heard) (λ x. x.lane.left) _ _ _ _ _ (shown_of g c) c.args.outgoing.plan
+    (λ x. is_early x.lane.heard) (λ x. x.lane.left) _ _ _ _ _ _ (shown_of g c) c.args.outgoing.plan
     (λ x. x.lane.outcome) c.in-Ok.workers.items (workers_are g c) c.serve_lanes-accepted.ensures.received
     (members g.N.Poller g.N.Net) (λ x. x.lane.net) c.serve_lanes-accepted.ensures.worked (few_sent g c) _ _
     c.args.handed.now c.list_handovers.new.handed c.serve_lanes-accepted.ensures.sent.accepted
     c.list_handovers.ensures c.serve_lanes-accepted.result c.conclude-outcome.result c.conclude-outcome.ensures)))
 
+-- the clients of each worker
+clients_are : (g : Over) (c : goal.After-drop-outgoing-2 g) (v : ℕ) → v < length c.args.more.now.items
+    → AreClients (length c.args.more.now.items) (slots_of (length c.args.more.now.items) c.args.outgoing.plan) v
+    (clients_at (λ x. x.lane.put) c.serve_lanes-accepted.new.workers.items v)
+clients_are g c v less =
+    let b = element c.serve_lanes-accepted.new.workers.items v
+    (subst (λ k. v < k) (sym (c.serve_lanes-accepted.ensures.count ∙ workers_are g c)) less) in
+    subst (AreClients (length c.args.more.now.items) (slots_of (length c.args.more.now.items) c.args.outgoing.plan) v)
+    (sym (ap (λ o. clients_of (put_at (λ x. x.lane.put) o)) b.1))
+    (record {
+      within = all_clients (λ k. k.number.0 < 2 * share (length c.args.more.now.items) v
+          (slots_of (length c.args.more.now.items) c.args.outgoing.plan)) b.0.lane.put
+          (within_at (λ x. x.lane.line) (λ x. x.lane.worker) (λ x. x.lane.put) (λ x. in_hand x.lane.heard)
+          (λ x. is_early x.lane.heard) (λ x. x.lane.left) _ _ _ _ _ _ (shown_of g c) v b.0 b.1);
+      apart = apart_at (members g.N.Poller g.N.Net) c.args.outgoing.plan (λ x. x.lane.net) (λ x. x.lane.put)
+          (λ x. is_early x.lane.heard) (λ x. x.lane.outcome) c.in-Ok.workers.items _
+          c.serve_lanes-accepted.ensures.count c.serve_lanes-accepted.ensures.worked v b.0 b.1;
+    })
+
 -- what the pass that is answered shows
 settled_of : (g : Over) (c : goal.After-drop-outgoing-2 g)
-    → IfOk c.answer.result (λ done. Settled (length c.args.more.now.items) c.args.outgoing.plan.conns done.1)
+    → IfOk c.answer.result (λ done. Settled (length c.args.more.now.items)
+    (slots_of (length c.args.more.now.items) c.args.outgoing.plan) c.args.handed.now c.list_handovers.new.handed done.1)
 settled_of g c =
-    answered_with (Settled (length c.args.more.now.items) c.args.outgoing.plan.conns) c.give_back.new.pass
-    c.conclude-outcome.result c.answer.result c.answer.ensures.served c.answer.ensures.pass
-    (settled c.args.words.now c.args.outgoing.plan (λ x. x.lane.outcome) (λ x. x.pass)
-    (length c.args.more.now.items) c.requires.limits
-    c.in-Ok.workers.items c.serve_lanes-accepted.new.workers.items (workers_are g c)
-    c.serve_lanes-accepted.ensures.count
-    c.serve_lanes-accepted.ensures.leaves c.serve_lanes-accepted.new.outgoing.pass c.give_back.new.pass
-    c.give_back.ensures.pass c.give_back.ensures.own c.give_back.ensures.each c.serve_lanes-accepted.result
-    c.serve_lanes-accepted.ensures.seat c.conclude-outcome.result c.conclude-outcome.ensures
-    (omega (arith, c.requires.workers.0)))
+    answered_with (Settled (length c.args.more.now.items)
+    (slots_of (length c.args.more.now.items) c.args.outgoing.plan) c.args.handed.now c.list_handovers.new.handed)
+    c.give_back.new.pass c.conclude-outcome.result c.answer.result c.answer.ensures.served c.answer.ensures.pass
+    (settled c.args.words.now c.args.outgoing.plan (λ x. x.lane.put) (λ x. x.lane.outcome) (λ x. x.pass)
+    (length c.args.more.now.items) c.requires.limits c.in-Ok.workers.items c.serve_lanes-accepted.new.workers.items
+    (workers_are g c) c.serve_lanes-accepted.ensures.count c.serve_lanes-accepted.ensures.leaves
+    c.serve_lanes-accepted.new.outgoing.pass c.give_back.new.pass c.give_back.ensures.pass c.give_back.ensures.own
+    c.give_back.ensures.each c.serve_lanes-accepted.result c.serve_lanes-accepted.ensures.seat
+    c.conclude-outcome.result c.conclude-outcome.ensures (omega (arith, c.requires.workers.0)) (clients_are g c)
+    (own_at (λ x. x.lane.line) (λ x. x.lane.worker) (λ x. x.lane.put) (λ x. in_hand x.lane.heard)
+    (λ x. is_early x.lane.heard) (λ x. x.lane.left) _ _ _ _ _ _ (shown_of g c)) c.args.handed.now
+    c.list_handovers.new.handed c.list_handovers.ensures)
 
 pub returns-clause-pass : goal.returns-clause-pass
 returns-clause-pass g c = IfOk-weaker c.answer.result _ _ (λ done is. is.holds) (settled_of g c)

@@ -5,7 +5,7 @@ use Rattle.nio_link.specs.Places.{never_asked}
 use Rattle.nio_serve.proofs.Watching.{longer}
 use Rattle.nio_serve.specs.Serving.{listener}
 use Rattle.nio_reactor.proofs.Lists.{all_more, at_end, first_has, first_taken, moved, nets_end, rest_has}
-use Rattle.nio_reactor.specs.Dealing.{share}
+use Rattle.nio_reactor.specs.Dealing.{share, slots_of}
 use Rattle.nio_reactor.specs.Receiving.{is_early}
 use Rattle.nio_reactor.specs.declared.door.Door.TheVariants.{Unasked}
 use Rattle.nio_reactor.specs.declared.lane.Worker.{Worker}
@@ -39,9 +39,19 @@ over-lane-requires-clause-all g c κs within =
     let more : c.len-count.result ≡ length c.args.more.now.items = grind (arith, c.len-count.ensures) in
     let all : c.len-count.result ≡ length g.K.Lines.lines
     = more ∙ sym c.requires.exits ∙ sym (length-map c.args.lines.items (λ e. e.line)) ∙ ap length c.requires.lines in
-    c.share_of-left.ensures.exact
-    ∙ ap (λ k. share k c.loop-worker.worker c.args.conns) all
+    c.share_of.ensures.exact
+    ∙ ap (λ k. share k c.loop-worker.worker c.args.plan.conns) all
     ∙ ap (share (length g.K.Lines.lines) c.loop-worker.worker) c.requires.conns
+
+pub over-lane-requires-clause-slots : goal.over-lane-requires-clause-slots
+over-lane-requires-clause-slots g c κs within =
+    let more : c.len-count.result ≡ length c.args.more.now.items = grind (arith, c.len-count.ensures) in
+    let all : c.len-count.result ≡ length g.K.Lines.lines
+    = more ∙ sym c.requires.exits ∙ sym (length-map c.args.lines.items (λ e. e.line)) ∙ ap length c.requires.lines in
+    c.share_of-in-loop-worker.ensures.exact
+    ∙ ap (λ k. share k c.loop-worker.worker c.slots_for-slots.result) all
+    ∙ ap (share (length g.K.Lines.lines) c.loop-worker.worker)
+    (c.slots_for-slots.ensures.all ∙ ap (λ k. slots_of k c.args.plan) more ∙ c.requires.slots)
 
 pub loop-worker-preserved : goal.loop-worker-preserved
 loop-worker-preserved g c =

@@ -49,7 +49,7 @@ returns-clause-leaves g c =
     let len_is : c.args.workers.now.len ≡ length c.args.workers.now.items
     = grind (arith, common_steps, c.as_mut_slice.ensures.len, c.as_mut_slice.ensures.value) in
     slice_back c.args.workers.now.items _ c.work_all.new.workers c.args.workers.now.len
-    (LeaveSeats c.args.words.now c.args.plan (λ x. x.pass) (λ x. x.lane.outcome)) c.as_mut_slice.ensures.value len_is
+    (LeaveSeats c.args.words.now c.args.plan (λ x. x.pass) (λ x. x.lane.put) (λ x. x.lane.outcome)) c.as_mut_slice.ensures.value len_is
     c.work_all.ensures.count c.work_all.ensures.leaves
 
 pub returns-clause-count : goal.returns-clause-count

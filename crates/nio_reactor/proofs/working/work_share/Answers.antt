@@ -1,7 +1,8 @@
-use Rattle.std.proofs.Common.{refl, ap}
+use Rattle.std.proofs.Common.{◌++◌, refl, sym, ap}
+use Rattle.std.proofs.lemmas.Result.{on_ok_weaker}
 use Rattle.nio_link.specs.Nets.{view_of}
 use Rattle.nio_reactor.proofs.Nets.{members}
-use Rattle.nio_reactor.proofs.Received.{none_put, received_all, received_none, received_not}
+use Rattle.nio_reactor.proofs.Received.{none_put, received_all, received_none, received_not, served_length}
 use Rattle.nio_reactor.proofs.Seating.{left_idle, left_served, left_unseated}
 use Rattle.nio_reactor.proofs.Worked.{worked, worked_none, worked_not}
 use Rattle.nio_reactor.specs.Lanes.{lane_view}
@@ -28,8 +29,11 @@ returns-then-plan-eq0-clause-received g c =
 
 pub returns-then-plan-eq0-clause-leaves : goal.returns-then-plan-eq0-clause-leaves
 returns-then-plan-eq0-clause-leaves g c =
-    left_idle c.args.words.now _ c.args.deal c.args.plan.conns c.args.worker.now.pass _ c.if-plan-eq0.true
-    c.requires.newcomer
+    left_idle c.args.words.now _ c.args.deal (clients_of c.args.worker.now.lane.put) c.args.worker.now.pass _
+    (ap clients_of
+    (none_put 0 c.args.plan.conns c.args.worker.now.lane.worker c.args.worker.now.lane.door
+    c.args.worker.now.lane.line c.args.worker.now.lane.put (in_hand c.args.worker.now.lane.heard) c.requires.door
+    c.args.worker.now.lane.at_door c.args.worker.now.lane.numbers)) c.requires.newcomer
 
 pub returns-in_default-clause-worked : goal.returns-in_default-clause-worked
 returns-in_default-clause-worked g c =
@@ -79,7 +83,15 @@ returns-clause-received g c =
 
 pub returns-clause-leaves : goal.returns-clause-leaves
 returns-clause-leaves g c =
-    left_served c.args.words.now _ c.args.deal c.args.plan.conns c.in-Some.board c.serve_on-outcome.result.1
-    c.leave_seat.new.pass c.serve_on-outcome.result.0 c.if-plan-eq0.false c.in-Some.ensures.seat
-    c.serve_on-outcome.ensures.seat c.serve_on-outcome.ensures.registered c.leave_seat.ensures.ready
-    c.leave_seat.ensures.called
+    let none = ap clients_of
+    (none_put 0 c.args.plan.conns c.args.worker.now.lane.worker c.args.worker.now.lane.door
+    c.args.worker.now.lane.line c.args.worker.now.lane.put (in_hand c.args.worker.now.lane.heard) c.requires.door
+    c.args.worker.now.lane.at_door c.args.worker.now.lane.numbers) in
+    left_served c.args.words.now _ c.args.deal (clients_of c.serve_on-outcome.new.net.put) c.args.plan.conns
+    c.in-Some.board c.serve_on-outcome.result.1 c.leave_seat.new.pass c.serve_on-outcome.result.0 c.if-plan-eq0.false
+    c.in-Some.ensures.seat c.serve_on-outcome.ensures.seat
+    (served_length c.args.plan _ _ c.serve_on-outcome.result.0 none c.serve_on-outcome.ensures.serves)
+    (on_ok_weaker c.serve_on-outcome.result.0
+    (λ all. all (clients_of c.serve_on-outcome.new.net.put)
+    (ap (λ l. l ++ clients_of c.serve_on-outcome.new.net.put) (sym none)))
+    c.serve_on-outcome.ensures.registered) c.leave_seat.ensures.ready c.leave_seat.ensures.called

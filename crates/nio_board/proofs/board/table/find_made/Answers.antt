@@ -1,6 +1,4 @@
-use Rattle.std.proofs.Common.{◌≡◌, ◌≢◌, ◌∙◌, Some, ap, rules, subst, sym}
-use Rattle.nio_base.specs.Numbers.{first_channel}
-use Rattle.nio_base.specs.declared.numbers.ChanId.{ChanId}
+use Rattle.std.proofs.Common.{◌≡◌, ◌∙◌, Some, ap, rules, sym}
 use Rattle.nio_board.proofs.BoardCalls.{fails_to_find, finds_other, is_other, made_find_channel}
 use Rattle.nio_board.proofs.TableCalls.{rest_found_channel}
 use Rattle.nio_board.proofs.board.table.find_made.Goals as goal
@@ -19,8 +17,8 @@ returns-then-eq-clause-rest c =
 
 pub returns-then-eq-clause-taken : goal.returns-then-eq-clause-taken
 returns-then-eq-clause-taken c =
-    let same : c.in-Some.made ≡ first_channel c.args.chan = search rules in
-    made_find_channel _ _ _ c.args.at.now c.args.chan (Some (first_channel c.args.chan)) (c.in-Some.is ∙ ap Some same)
+    let same : c.in-Some.made ≡ c.args.chan = search rules in
+    made_find_channel _ _ _ c.args.at.now c.args.chan (Some c.args.chan) (c.in-Some.is ∙ ap Some same)
     c.find_channel.ensures.call
 
 pub returns-else-eq-clause-rest : goal.returns-else-eq-clause-rest
@@ -29,6 +27,5 @@ returns-else-eq-clause-rest c =
 
 pub returns-else-eq-clause-failed : goal.returns-else-eq-clause-failed
 returns-else-eq-clause-failed c =
-    let other = is_other c.in-Some.made c.first.result (sym c.eq.ensures ∙ c.if-eq.false) in
-    finds_other _ _ _ c.args.at.now c.args.chan c.in-Some.made c.in-Some.is
-    (subst (λ (x : ChanId). c.in-Some.made ≢ x) c.first.ensures other) c.find_channel.ensures.call
+    let other = is_other c.in-Some.made c.args.chan (sym c.eq.ensures ∙ c.if-eq.false) in
+    finds_other _ _ _ c.args.at.now c.args.chan c.in-Some.made c.in-Some.is other c.find_channel.ensures.call

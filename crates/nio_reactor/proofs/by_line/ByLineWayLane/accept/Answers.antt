@@ -1,4 +1,4 @@
-use Rattle.std.proofs.Common.{◌≡◌, Some, [], ◌∷◌, ◌++◌, map, refl, sym, ap, ◌∙◌}
+use Rattle.std.proofs.Common.{◌≡◌, ◌*◌, ◌<◌, Some, [], ◌∷◌, ◌++◌, map, refl, sym, ap, ◌∙◌}
 use Rattle.nio_reactor.proofs.Listening.{put_spare}
 use Rattle.nio_reactor.proofs.Lists.{all_more}
 use Rattle.nio_reactor.proofs.Received.{numbers_next}
@@ -30,3 +30,8 @@ pub invariant_of-lane-2-clause-own : goal.invariant_of-lane-2-clause-own
 invariant_of-lane-2-clause-own g c =
     all_more (λ h. h.worker ≡ c.args.lane.now.worker) c.args.lane.now.put c.push.new.self _ c.push.ensures
     c.args.lane.now.own refl
+
+pub invariant_of-lane-2-clause-within : goal.invariant_of-lane-2-clause-within
+invariant_of-lane-2-clause-within g c =
+    all_more (λ h. h.client.number.0 < 2 * c.args.lane.now.slots) c.args.lane.now.put c.push.new.self _ c.push.ensures
+    c.args.lane.now.within c.if-chan-lane.false

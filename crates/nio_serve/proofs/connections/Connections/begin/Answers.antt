@@ -1,67 +1,75 @@
-use Rattle.std.proofs.Common.{◌≡◌, sym, ap, subst, ◌∙◌, ◌+◌, Some, arith}
+use Rattle.std.proofs.Common.{◌∙◌, ap, arith, subst, sym}
+use Rattle.nio_base.specs.declared.numbers.Addr.{Addr}
 use Rattle.nio_base.specs.declared.numbers.ChanId.{ChanId}
-use Rattle.nio_serve.specs.Serving.{listener}
-use Rattle.nio_serve.specs.Slots.{has_ended, has_faulted, IsSlotOf}
-use Rattle.nio_serve.specs.declared.slot.Slot.TheVariants.{Live}
-use Rattle.nio_serve.proofs.Counts.{one_if}
-use Rattle.nio_serve.proofs.Slotting.{client_listener, client_number, few_counted, others_then, serving_connected}
-use Rattle.nio_serve.proofs.Slotting.{slot_is, target_free, target_listener, target_number}
+use Rattle.nio_link.specs.Places.{IsFree}
+use Rattle.nio_serve.specs.Slots.{client_at, target_at}
+use Rattle.nio_serve.specs.Statuses.{IsStatusOf, Live, status_after}
+use Rattle.nio_serve.proofs.Followed.{faulted_followed, status_of_followed}
+use Rattle.nio_serve.proofs.Slotting.{fewer_counted, live_is, serial_read, serving_begun, taken_of, target_free}
+use Rattle.nio_serve.proofs.Statuses.{serial_of, status_live}
 use Rattle.nio_serve.proofs.Ways.{members}
 use Rattle.nio_serve.proofs.connections.Connections.begin.Goals as goal
 
-pub begin_relay-slot-requires : goal.begin_relay-slot-requires
-begin_relay-slot-requires g c = record {
-  apart = c.links_of-links.ensures.apart;
-  free = target_free (g.W.Way.link c.args.net.now) (g.W.Way.place c.args.net.now) c.args.self.now _ c.in-Some.relay
-      c.links_of-links.result.target c.requires.served c.links_of-links.ensures.target c.in-Some.ensures.taken;
-  slot = subst
-      (λ to. IsSlotOf to (Some (Live c.in-Some.relay)) (g.W.Way.link c.args.net.now c.links_of-links.result.client)
-      (g.W.Way.link c.args.net.now c.links_of-links.result.target) (g.W.Way.place c.args.net.now c.links_of-links.result.client)
-      (g.W.Way.place c.args.net.now c.links_of-links.result.target))
-      (sym c.take.ensures.others.target)
-      (slot_is (members g.W.Polls g.W.Way) _ c.in-Some.relay c.links_of-links.result.client c.links_of-links.result.target c.args.net.now c.args.self.now
-      c.links_of-links.ensures.client c.links_of-links.ensures.target c.requires.served c.in-Some.ensures.taken);
-}
+pub begin-ended-requires-clause-free : goal.begin-ended-requires-clause-free
+begin-ended-requires-clause-free g c accepted =
+    let slot = c.args.slot in
+    let taken = taken_of slot c.in-Some.relay c.args.self.now c.take.new.self c.requires.served c.in-Some.ensures in
+    let serial = serial_read slot c.in-Some.relay c.args.self.now c.take.new.self taken c.index.result.now c.index.ensures
+    in
+    subst (λ (x : ChanId). IsFree (g.W.Way.place c.args.net.now) x)
+    (sym (c.links_of-links.ensures.target ∙ ap (target_at slot) serial))
+    (target_free (g.W.Way.link c.args.net.now) (g.W.Way.place c.args.net.now) c.args.self.now c.requires.served slot
+    taken.slot c.in-Some.relay taken.at taken.relay accepted)
 
-pub put-requires-clause-few : goal.put-requires-clause-few
-put-requires-clause-few g c = omega (arith, c.take.ensures.ended, (few_counted c.requires.served).0)
+pub begin-ended-requires-clause-status : goal.begin-ended-requires-clause-status
+begin-ended-requires-clause-status g c =
+    let n = members g.W.Polls g.W.Way in
+    let net = c.args.net.now in
+    let slot = c.args.slot in
+    let links = c.links_of-links.result in
+    let taken = taken_of slot c.in-Some.relay c.args.self.now c.take.new.self c.requires.served c.in-Some.ensures in
+    let serial = serial_read slot c.in-Some.relay c.args.self.now c.take.new.self taken c.index.result.now c.index.ensures
+    in
+    subst (λ (to : Addr). IsStatusOf to (Live c.in-Some.relay) (g.W.Way.link net links.client)
+    (g.W.Way.link net links.target) (g.W.Way.place net links.client) (g.W.Way.place net links.target))
+    (sym taken.takes.moved.none.plan.target)
+    (live_is n slot c.in-Some.relay links.client links.target net c.args.self.now c.take.new.self c.requires.served taken
+    (c.links_of-links.ensures.client ∙ ap (client_at slot) serial)
+    (c.links_of-links.ensures.target ∙ ap (target_at slot) serial))
 
-pub put-requires-clause-few_faulted : goal.put-requires-clause-few_faulted
-put-requires-clause-few_faulted g c = omega (arith, c.take.ensures.faulted, (few_counted c.requires.served).1)
+pub go_on-requires : goal.go_on-requires
+go_on-requires g c =
+    let slot = c.args.slot in
+    let taken = taken_of slot c.in-Some.relay c.args.self.now c.take.new.self c.requires.served c.in-Some.ensures in
+    let counts = fewer_counted slot (serial_of taken.slot) c.in-Some.relay c.requires.served
+    (status_live c.args.self.now.slots.items slot taken.slot c.in-Some.relay taken.at taken.relay) in
+    record {
+      within = omega (arith, taken.within, taken.takes.others.length);
+      few = omega (arith, counts.0, taken.takes.moved.ended);
+      few_faulted = omega (arith, counts.1, taken.takes.moved.faulted);
+    }
 
 pub returns-clause-serving : goal.returns-clause-serving
 returns-clause-serving g c =
-    let slot = c.follow-followed.new.self in
-    let begun = c.begin_relay-slot.ensures in
-    let at = c.args.self.now in
-    let to : c.take.new.self.target ≡ at.target = c.take.ensures.others.target in
-    serving_connected (members g.W.Polls g.W.Way) _ slot c.in-Some.relay c.links_of-links.result.client c.links_of-links.result.target c.args.net.now
-    c.begin_relay-slot.new.net c.args.self.now c.put.new.self
-    c.links_of-links.ensures.client c.links_of-links.ensures.target c.requires.served c.in-Some.ensures.taken begun.begins
-    c.put.ensures.slot
-    (others_then c.take.new.self c.begin_relay-slot.new.spare c.take.ensures.others c.put.ensures.others)
-    (subst
-    (λ a. IsSlotOf a (Some slot) (g.W.Way.link c.begin_relay-slot.new.net c.links_of-links.result.client)
-    (g.W.Way.link c.begin_relay-slot.new.net c.links_of-links.result.target)
-    (g.W.Way.place c.begin_relay-slot.new.net c.links_of-links.result.client)
-    (g.W.Way.place c.begin_relay-slot.new.net c.links_of-links.result.target)) to
-    (record {
-      is_slot = c.follow-followed.ensures.slot _ _ _ _ begun.slot.is_slot;
-      roles = c.follow-followed.ensures.roles _ _ _ begun.slot.roles;
-    }))
-    (c.put.ensures.ended ∙ ap (λ m. m + one_if (has_ended (Some slot))) c.take.ensures.ended)
-    (c.put.ensures.faulted ∙ ap (λ m. m + one_if (has_faulted (Some slot))) c.take.ensures.faulted)
-    (λ f. begun.faulty (sym c.follow-followed.ensures.faulted ∙ f))
-    (λ f. begun.calm (sym c.follow-followed.ensures.faulted ∙ f)) begun.accepted
-
-pub returns-clause-ready : goal.returns-clause-ready
-returns-clause-ready g c =
-    c.begin_relay-slot.ensures.begins.ready listener.number
-    (λ at. client_number _ (at ∙ ap (λ (x : ChanId). x.number) c.links_of-links.ensures.client))
-    (λ at. target_number _ (at ∙ ap (λ (x : ChanId). x.number) c.links_of-links.ensures.target))
-
-pub returns-clause-listens : goal.returns-clause-listens
-returns-clause-listens g c =
-    c.begin_relay-slot.ensures.begins.places listener
-    (λ at. client_listener _ (sym (at ∙ c.links_of-links.ensures.client)))
-    (λ at. target_listener _ (sym (at ∙ c.links_of-links.ensures.target)))
+    let n = members g.W.Polls g.W.Way in
+    let net = c.begin-ended.new.net in
+    let slot = c.args.slot in
+    let links = c.links_of-links.result in
+    let taken = taken_of slot c.in-Some.relay c.args.self.now c.take.new.self c.requires.served c.in-Some.ensures in
+    let serial = serial_read slot c.in-Some.relay c.args.self.now c.take.new.self taken c.index.result.now c.index.ensures
+    in
+    let begun = c.begin-ended.ensures in
+    let goes = c.go_on.ensures.goes in
+    let relay = c.begin-ended.new.self in
+    let followed = goes.followed in
+    let ended = c.begin-ended.result in
+    serving_begun n slot c.in-Some.relay followed ended links.client links.target c.args.net.now net c.args.self.now
+    c.take.new.self c.go_on.new.self c.requires.served taken
+    (c.links_of-links.ensures.client ∙ ap (client_at slot) serial)
+    (c.links_of-links.ensures.target ∙ ap (target_at slot) serial) goes.puts begun.begins
+    (subst (λ (to : Addr). IsStatusOf to (status_after followed ended) (g.W.Way.link net links.client)
+    (g.W.Way.link net links.target) (g.W.Way.place net links.client) (g.W.Way.place net links.target))
+    taken.takes.moved.none.plan.target
+    (status_of_followed relay followed goes.there goes.back goes.stage c.take.new.self.target ended _ _ _ _ begun.status))
+    (λ f. begun.faulty (sym (faulted_followed relay followed goes.there goes.back goes.stage ended) ∙ f))
+    (λ f. begun.calm (sym (faulted_followed relay followed goes.there goes.back goes.stage ended) ∙ f)) begun.accepted

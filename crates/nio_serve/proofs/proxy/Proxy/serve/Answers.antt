@@ -1,5 +1,6 @@
 use Rattle.std.proofs.Common.{refl, ap, sym, ◌∙◌}
 use Rattle.nio_link.specs.declared.place.Place.{Place}
+use Rattle.nio_serve.specs.declared.connections.Connections.{Connections}
 use Rattle.nio_serve.specs.Serving.{listener}
 use Rattle.nio_serve.proofs.Slotting.{serving_none, serving_then, serving_quiet, cause_on, listens_on}
 use Rattle.nio_serve.proofs.Watching.{seat_none, seat_then, watched_on, watching_then, where_done}
@@ -46,7 +47,7 @@ loop-preserved g c = record {
   seat = seat_then (seat_then c.loop.invariant.seat c.round-served.ensures.watching.seat)
       c.stop_listening.ensures.board.seat;
   watched = watched_on c.round-served.new.self.connections c.stop_listening.new.self.connections
-      c.stop_listening.ensures.board c.stop_listening.ensures.connections
+      c.stop_listening.ensures.board (ap (λ (x : Connections). x.clients) c.stop_listening.ensures.connections)
       (where_done c.round-served.result (sym c.is_err.ensures.value ∙ c.if-is_err.false)
       c.round-served.ensures.watching.all);
 }
