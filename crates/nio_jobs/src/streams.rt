@@ -1,8 +1,7 @@
 //! Which operations are started on the streams of the connections.
 ghost use mathlib.Core.List.{IsPrefix};
-ghost use Rattle.std.specs.Prelude.{◌≡◌, ◌≢◌, ◌↔◌, ◌++◌, [], IfOk, IfSome, IsTrue, replicate};
-ghost use Rattle.nio_group.specs.Steps.{IsJobOf};
-ghost use Rattle.nio_jobs.specs.Handling.{after_accepted, after_listening, after_next, after_result, binding};
+ghost use Rattle.std.specs.Prelude.{◌≡◌, ◌≢◌, ◌↔◌, ◌++◌, [], IfOk, IsTrue, replicate};
+ghost use Rattle.nio_jobs.specs.Handling.{after_accepted, after_listening, after_result};
 ghost use Rattle.nio_jobs.specs.Handling.{held_after_result, starting, starting_some};
 
 use crate::next::{Directions, Next, Start};
@@ -67,7 +66,9 @@ impl Streams {
         ensures held { self.new.held ≡ self.old.held }
     {
         if let Ok(listener) = at.open_channel(GKind::Listener) {
-            bind(at, listener);
+            if at.is_made(listener) {
+                at.bind(listener);
+            }
             let accept = Start {
                 chan: listener,
                 kind: OpKind::Accept,
@@ -83,17 +84,10 @@ impl Streams {
         ensures after { at.new ≡ after_result S.Starter self.old.held at.old chan kind finished }
         ensures held { self.new.held ≡ held_after_result S.Starter self.old.held at.old chan kind finished }
     {
-        if at.is_made(chan) {
-            let next = self.directions.next(chan, kind, finished);
-            self.do_next(at, next);
+        if !at.is_made(chan) {
+            return;
         }
-    }
-
-    fn do_next<S: Starter>(&mut self, at: &mut S, next: Next)
-        ensures after { at.new ≡ after_next S.Starter at.old next }
-        ensures held { self.new.held ≡ self.old.held }
-    {
-        match next {
+        match self.directions.next(chan, kind, finished) {
             Next::Nothing => {}
             Next::Accepted => self.accepted(at),
             Next::Both(first, second) => {
@@ -141,30 +135,12 @@ impl Streams {
         ensures after { at.new ≡ starting S.Starter at.old start }
         ensures held { self.new.held ≡ self.old.held }
     {
-        if let Some(job) = started(at, start) {
+        if !at.is_made(start.chan) {
+            return;
+        }
+        if let Some(job) = at.start(start.chan, start.kind, start.len) {
             // there is room for the jobs of all operations that can be in flight
             let _ = self.started.push(job);
         }
-    }
-}
-
-// Binds a listener, if that channel was made.
-fn bind<S: Starter>(at: &mut S, listener: GChan)
-    ensures { at.new ≡ binding S.Starter at.old listener }
-{
-    if at.is_made(listener) {
-        at.bind(listener);
-    }
-}
-
-// Starts an operation, if its channel was made, and takes its job where it is pending.
-fn started<S: Starter>(at: &mut S, start: Start) -> Option<Job>
-    ensures after { at.new ≡ starting S.Starter at.old start }
-    ensures job { IfSome result (IsJobOf (S.group at.new) start.chan start.kind) }
-{
-    if at.is_made(start.chan) {
-        at.start(start.chan, start.kind, start.len)
-    } else {
-        None
     }
 }
