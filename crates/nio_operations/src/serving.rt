@@ -229,8 +229,8 @@ pub struct CountedServe {
 /// the calls of a round came to. The handlers run on this many workers, each in a thread of its own. A worker takes a
 /// completion from the queue, passes the test gate, with its number and the operation's, and then handles it with up to
 /// 15 others that wait: it starts what is due next. It rings the bell, which has to be that of the net, where the
-/// dispatcher waits for what it started. So a handler that is held at the gate holds up no other connection while
-/// another worker is awake (tested only); one that sleeps isn't called at once in each schedule.
+/// dispatcher waits for what it started. So a handler that is held at the gate holds up no other connection while a
+/// worker is free (tested only), but for an accept's: that one accepts the next client, so none comes while it is held.
 ///
 /// The dispatcher handles completions itself, and passes no gate, until a worker has begun, as where no thread can be
 /// made; and a single one that comes while all workers sleep and it has no job to go on with (`serve_group_counted` says

@@ -11,8 +11,13 @@ use std::thread;
 /// How often a worker looks whether the other has come before it gives up.
 const TURNS: u32 = 100_000_000;
 
-/// Holds each of two workers until the other has come with a completion of its own. The connections have completions
-/// together; while one worker is held with the first of them, only the other can take the next one.
+/// The operation that accepts the first client. Its handler starts what comes next, so while it is held nothing else
+/// completes. It comes to a worker only where not all of them sleep yet.
+const FIRST_ACCEPT: u64 = 0;
+
+/// Holds each of two workers until the other has come with a completion of its own, but for that of the first accept.
+/// The connections have completions together; while one worker is held with the first of them, only the other can take
+/// the next one.
 #[derive(Drop)]
 struct Meeting {
     first_came: AtomicBool,
@@ -49,7 +54,10 @@ impl Meeting {
 }
 
 impl Gate for Meeting {
-    fn pass<R: Wait>(&self, _rt: &R, who: u32, _what: u64) {
+    fn pass<R: Wait>(&self, _rt: &R, who: u32, what: u64) {
+        if what == FIRST_ACCEPT {
+            return;
+        }
         match who {
             0 => self.meet(&self.first_came, &self.second_came),
             1 => self.meet(&self.second_came, &self.first_came),

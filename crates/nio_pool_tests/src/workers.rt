@@ -9,8 +9,8 @@ use nio_base::{Gate, NoGate, OpNo};
 use nio_group::{Finished, GroupLimits, StartError, Why};
 use nio_pool::{CompletionQueue, Group, Handed, Handler, QueuePass, work};
 use std::alloc::Global;
-use std::sync::Wait;
 use std::sync::atomic::{AtomicBool, AtomicU64, Ordering};
+use std::sync::{Condvar, Mutex, Wait};
 use std::test::Fail;
 use std::thread;
 use std::thread::{Threads, join};
@@ -373,5 +373,191 @@ fn sleeper_is_woken(rt: HostRuntime) -> Result<(), Fail> {
     let (queue, passes) = CompletionQueue::make(rt.alloc(), 2, 1)?;
     close_stream(&mut group.lock(&rt))?;
     assert_eq!(rt; start_late(&rt, &group, &queue, passes), 1);
+    Ok(())
+}
+
+/// Holds the worker that comes first until it is opened, and lets the other pass. Counts what is handled.
+#[derive(Drop)]
+struct HoldsFirst {
+    came: AtomicU64,
+    handled: AtomicU64,
+    is_open: Mutex<bool>,
+    opened: Condvar,
+}
+
+impl HoldsFirst {
+    fn new() -> HoldsFirst {
+        HoldsFirst {
+            came: AtomicU64::new(0),
+            handled: AtomicU64::new(0),
+            is_open: Mutex::new(false),
+            opened: Condvar::new(),
+        }
+    }
+
+    fn open<R: Wait>(&self, rt: &R) {
+        *self.is_open.lock(rt) = true;
+        self.opened.notify_all();
+    }
+}
+
+impl Gate for HoldsFirst {
+    fn pass<R: Wait>(&self, rt: &R, _who: u32, _what: u64) {
+        if self.came.fetch_add(1, Ordering::SeqCst) != 0 {
+            return;
+        }
+        let mut is_open = self.is_open.lock(rt);
+        for _ in rt.forever() {
+            if *is_open {
+                return;
+            }
+            is_open = self.opened.wait(rt, is_open);
+        }
+        unreachable!()
+    }
+}
+
+impl Handler for HoldsFirst {
+    fn completed<R: Wait>(&self, _rt: &R, _group: &Group, _done: Handed) {
+        self.handled.fetch_add(1, Ordering::SeqCst);
+    }
+}
+
+/// How often a thread looks whether a count has come so far, at least 50 microseconds apart, before it gives up.
+const LOOKS: u32 = 200_000;
+
+/// Whether the count comes so far in time.
+fn comes_to<R: Clock>(rt: &R, count: &AtomicU64, wanted: u64) -> bool {
+    for _ in 0..LOOKS {
+        if count.load(Ordering::SeqCst) >= wanted {
+            return true;
+        }
+        thread::sleep(rt, Duration::from_micros(50));
+    }
+    false
+}
+
+/// Where a completion is left to the workers.
+#[derive(Clone, Copy)]
+enum LeftIn {
+    Group,
+    Queue,
+}
+
+/// Starts an operation, which completes at once, and calls a worker.
+fn complete_one<R: Wait>(
+    rt: &R,
+    group: &Group,
+    queue: &CompletionQueue,
+    pass: &mut QueuePass,
+    left_in: LeftIn,
+)
+    requires { IsPassOf queue.now pass.old }
+    ensures { IsPassOf queue.now pass.new }
+{
+    let mut core = group.lock(rt);
+    let _ = start_read(&mut core);
+    match left_in {
+        LeftIn::Group => {
+            drop(core);
+            group.wake(rt);
+        }
+        LeftIn::Queue => {
+            let moved = queue.move_from(rt, pass, &mut core);
+            group.wake_for(core, moved.count);
+        }
+    }
+}
+
+/// How many operations complete one by one.
+const ONE_BY_ONE: u64 = 200;
+
+/// Completes an operation, and once a worker is held with that, the others one by one. Answers how many of these are
+/// handled in time.
+fn complete_beside_held<R: Wait + Clock>(
+    rt: &R,
+    group: &Group,
+    queue: &CompletionQueue,
+    pass: &mut QueuePass,
+    left_in: LeftIn,
+    gate: &HoldsFirst,
+) -> u64
+    requires { IsPassOf queue.now pass.old }
+{
+    complete_one(rt, group, queue, pass, left_in);
+    if !comes_to(rt, &gate.came, 1) {
+        return 0;
+    }
+    for before in 0..ONE_BY_ONE {
+        complete_one(rt, group, queue, pass, left_in);
+        if !comes_to(rt, &gate.handled, before + 1) {
+            return before;
+        }
+    }
+    ONE_BY_ONE
+}
+
+/// Two workers, of which one is held. Answers how many of the operations that complete meanwhile are handled in time.
+fn handled_beside_held<R: Threads + Wait + Sync + Clock>(
+    rt: &R,
+    group: &Group,
+    queue: &CompletionQueue,
+    own: QueuePass,
+    passes: Vec<QueuePass>,
+    left_in: LeftIn,
+) -> u64
+    requires own { IsPassOf queue.now own }
+    requires passes { All (IsPassOf queue.now) passes.items }
+    requires few { length passes.items ≤ 65 }
+{
+    let gate = HoldsFirst::new();
+    let held = &gate;
+    let (handled, ()) = join(
+        rt,
+        move ||
+            requires { IsPassOf queue.now own }
+        {
+            let mut own = own;
+            let handled = complete_beside_held(rt, group, queue, &mut own, left_in, held);
+            group.lock(rt).shutdown();
+            group.wake(rt);
+            held.open(rt);
+            handled
+        },
+        move ||
+            requires { IsSync R.row × All (IsPassOf queue.now) passes.items × (length passes.items ≤ 65) }
+        {
+            let mut passes = passes;
+            run_workers(rt, group, queue, passes.as_mut_slice(), held, held);
+        },
+    );
+    handled
+}
+
+/// As `handled_beside_held`, over a group of its own.
+fn handled_in_new_group<R: Threads + Wait + Sync + Clock>(
+    rt: &R,
+    alloc: Global,
+    left_in: LeftIn,
+) -> Result<u64, Fail> {
+    let group = Group::make(alloc, 2, limits(ONE_BY_ONE + 1))?;
+    let (queue, mut passes) = CompletionQueue::make(alloc, 3, 4)?;
+    let Some(own) = next_pass(&queue, &mut passes) else {
+        return Ok(0);
+    };
+    if passes.len() != 2 {
+        return Ok(0);
+    }
+    close_stream(&mut group.lock(rt))?;
+    Ok(handled_beside_held(rt, &group, &queue, own, passes, left_in))
+}
+
+/// While a worker is held, the other one, which sleeps in between, handles all that completes.
+#[test]
+fn held_worker_holds_up_no_other_completion(rt: HostRuntime) -> Result<(), Fail> {
+    let in_group = handled_in_new_group(&rt, rt.alloc(), LeftIn::Group)?;
+    assert_eq!(rt; in_group, ONE_BY_ONE);
+    let in_queue = handled_in_new_group(&rt, rt.alloc(), LeftIn::Queue)?;
+    assert_eq!(rt; in_queue, ONE_BY_ONE);
     Ok(())
 }

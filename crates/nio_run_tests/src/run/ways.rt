@@ -10,28 +10,34 @@ use std::random::RandomSource;
 use std::sync::Wait;
 use std::sync::atomic::{AtomicBool, AtomicU64, Ordering};
 use std::test::Fail;
-use std::thread::{Threads, yield_now};
+use std::thread::{Threads, sleep};
+use std::time::{Clock, Duration};
 
-/// How often a worker looks whether the others have come before it gives up.
-const TURNS: u32 = 100_000_000;
+/// How often a worker looks whether the others have come, a millisecond apart, before it gives up.
+const LOOKS: u32 = 20_000;
 
 /// How often it then looks whether one too many comes.
-const TURNS_MORE: u32 = 20_000;
+const LOOKS_MORE: u32 = 10;
 
-/// Holds each worker that comes until as many as are wanted are here, and then for some turns, in which one too many
-/// could come.
+/// Holds each worker, when it comes for the first time, until as many as are wanted are here, and then for some
+/// milliseconds, in which one too many could come. It holds nobody with the piece of work `alone`, which has no other
+/// beside it.
 #[derive(Drop)]
-struct Crew {
+struct Crew<'a, C> {
+    clock: &'a C,
     wanted: u32,
+    alone: Option<u64>,
     /// A bit for each worker that came.
     came: AtomicU64,
     given_up: AtomicBool,
 }
 
-impl Crew {
-    fn of(wanted: u32) -> Crew {
+impl<'a, C: Clock> Crew<'a, C> {
+    fn of(clock: &'a C, row: &Row) -> Crew<'a, C> {
         Crew {
-            wanted,
+            clock,
+            wanted: row.workers,
+            alone: row.alone,
             came: AtomicU64::new(0),
             given_up: AtomicBool::new(false),
         }
@@ -42,38 +48,43 @@ impl Crew {
         self.came.load(Ordering::SeqCst).count_ones()
     }
 
-    /// Whether so many come within so many turns.
-    fn awaits(&self, count: u32, turns: u32) -> bool {
-        for _ in 0..turns {
+    /// Whether so many come within so many looks.
+    fn awaits(&self, count: u32, looks: u32) -> bool {
+        for _ in 0..looks {
             if self.count() >= count {
                 return true;
             }
-            yield_now();
+            sleep(self.clock, Duration::from_millis(1));
         }
         false
     }
 }
 
-impl Gate for Crew {
-    fn pass<R: Wait>(&self, _rt: &R, who: u32, _what: u64) {
-        let bit = 1u64.checked_shl(who).unwrap_or(0);
-        self.came.fetch_or(bit, Ordering::SeqCst);
-        if self.given_up.load(Ordering::SeqCst) {
+impl<'a, C: Clock> Gate for Crew<'a, C> {
+    fn pass<R: Wait>(&self, _rt: &R, who: u32, what: u64) {
+        if self.alone == Some(what) {
             return;
         }
-        if !self.awaits(self.wanted, TURNS) {
+        let bit = 1u64.checked_shl(who).unwrap_or(0);
+        let came_before = self.came.fetch_or(bit, Ordering::SeqCst) & bit != 0;
+        if came_before || self.given_up.load(Ordering::SeqCst) {
+            return;
+        }
+        if !self.awaits(self.wanted, LOOKS) {
             self.given_up.store(true, Ordering::SeqCst);
         }
-        let _ = self.awaits(self.wanted.saturating_add(1), TURNS_MORE);
+        let _ = self.awaits(self.wanted.saturating_add(1), LOOKS_MORE);
     }
 }
 
-/// The words of a way, and how many workers it has at once.
+/// The words of a way, how many workers it has at once, and which piece of work comes alone. By operations that is the
+/// first accept, operation 0: its handler starts what comes next.
 #[derive(Clone, Copy)]
 struct Row {
     name: &'static str,
     words: &'static [&'static str],
     workers: u32,
+    alone: Option<u64>,
 }
 
 const ROWS: &[Row] = &[
@@ -81,31 +92,47 @@ const ROWS: &[Row] = &[
         name: "select",
         words: &["--way=select"],
         workers: 0,
+        alone: None,
     },
     Row {
         name: "future",
         words: &["--way=future"],
         workers: 0,
+        alone: None,
     },
     Row {
         name: "group of one",
         words: &["--way=group", "--workers=1"],
         workers: 1,
+        alone: Some(0),
+    },
+    Row {
+        name: "group of two",
+        words: &["--way=group", "--workers=2"],
+        workers: 2,
+        alone: Some(0),
     },
     Row {
         name: "many, one",
         words: &["--way=many", "--workers=1"],
         workers: 1,
+        alone: None,
     },
     Row {
         name: "many, two",
         words: &["--way=many", "--workers=2"],
         workers: 2,
+        alone: None,
     },
 ];
 
 /// The status of the program that relays three connections in the way of a row, and what it wrote.
-fn relays<R>(rt: &R, alloc: Global, row: &Row, gate: &Crew) -> Result<(u8, MemorySink), AllocError>
+fn relays<R, G: Gate + Sync>(
+    rt: &R,
+    alloc: Global,
+    row: &Row,
+    gate: &G,
+) -> Result<(u8, MemorySink), AllocError>
 where
     R: Threads + Wait + RandomSource + AllocGlobal + Sync,
 {
@@ -139,7 +166,7 @@ where
 #[test]
 fn each_way_has_its_workers(rt: HostRuntime) -> Result<(), Fail> {
     for row in ROWS {
-        let gate = Crew::of(row.workers);
+        let gate = Crew::of(&rt, row);
         let (status, sink) = relays(&rt, rt.alloc(), row, &gate)?;
         assert_eq!(rt; status, 0, "{}", row.name);
         assert_eq!(rt;
