@@ -154,7 +154,7 @@ enum {
     NIO_NO_SUCH_KEY = 10,           /* it was never made */
     NIO_NO_SUCH_CALLER = 11,        /* the table has no such number */
     NIO_BUSY = 12,                  /* another caller is at it, or a selection is in progress: try again */
-    NIO_SPENT = 13,                 /* no number is free for a selector, or for a channel of this kind */
+    NIO_SPENT = 13,                 /* no number is free for a selector or such a channel; no caller was given back */
     NIO_ILLEGAL_OPS = 14,           /* a channel of this kind doesn't support these operations */
     NIO_CLOSED_CHANNEL = 15,
     NIO_ILLEGAL_BLOCKING_MODE = 16, /* a channel that is registered, or is to be, has to be non-blocking */
@@ -177,6 +177,17 @@ nio_status nio_make(const nio_limits *limits, nio_caller *first);
 
 /* Gives a number away: to a new caller at the same table, for another thread. FULL_HANDLE, NOT_HELD, NO_MEMORY. */
 nio_status nio_split(nio_caller *caller, uint32_t number, nio_caller *given);
+
+/* Gives the caller back to its table, for nio_take_back. It keeps its number, the numbers and lists that it has, its
+ * interrupt status, and what it has in progress; but not the memory for nio_told. The handle is empty then, and can be
+ * filled again. The table is let go where no handle has a caller of it any more. BUSY: at the table there is no place
+ * for it, and the caller is in the handle still. There are as many places as callers, so this doesn't come. */
+nio_status nio_give_back(nio_caller *caller);
+
+/* Takes a caller back that was given back to the table of this one, in whatever thread; which, where there are several,
+ * isn't said. FULL_HANDLE, SPENT (it found none; one that is given back meanwhile may be missed), NO_MEMORY (it stays at
+ * the table). */
+nio_status nio_take_back(nio_caller *caller, nio_caller *given);
 
 /* Lets the caller go. Its number makes no more calls; the turn of a selection that it has in progress stays taken, and
  * a selector that it began to close is never closed. The handle is empty then, and can be filled again. */
@@ -242,9 +253,9 @@ nio_status nio_asked(nio_caller *caller, uint32_t selector, nio_looked *keys, si
  * how. AGAIN: it goes on. NO_MEMORY (nothing was told), NOT_SELECTING. An index that it doesn't ask for is ignored, and
  * so is an operation that it doesn't look for.
  *
- * The caller keeps a copy of the pairs, and its memory, until nio_free. NO_MEMORY comes only where count is more than
- * each earlier call with this caller had that answered DONE, AGAIN or NOT_SELECTING. So one such call with as many
- * pairs as there will ever be, before any selection, makes room for all later ones.
+ * The handle keeps a copy of the pairs, and its memory, as long as the caller. NO_MEMORY comes only where count is
+ * more than each earlier call with this caller in this handle had that answered DONE, AGAIN or NOT_SELECTING. So one
+ * such call with as many pairs as there will ever be, before any selection, makes room for all later ones.
  *
  * As in Java's documentation it goes on where only such keys are ready as are selected already with these operations:
  * take selected keys out. With `enough` it is over as soon as something was told of what it asks for, as in JDK 17;
@@ -339,10 +350,6 @@ nio_status nio_attach(nio_caller *caller, nio_key key, uint64_t attachment, uint
 
 /* attachment. 0 where there is none, no such key, or its index went to another one. */
 nio_status nio_attachment(nio_caller *caller, nio_key key, uint64_t *attachment);
-
-/*
- * To come: a number that was given away and comes back to the caller that gave it.
- */
 
 #ifdef __cplusplus
 }

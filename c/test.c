@@ -64,6 +64,65 @@ static void handles(void)
     EXPECT(NIO_DONE, nio_free(&second));
 }
 
+/* Callers come back, and with what they have. */
+static void coming_back(void)
+{
+    nio_caller first = {0}, second = {0}, third = {0}, other = {0}, empty = {0};
+    uint32_t number, its, selector;
+    bool answer;
+    EXPECT(NIO_EMPTY_HANDLE, nio_give_back(&empty));
+    EXPECT(NIO_EMPTY_HANDLE, nio_take_back(&empty, &second));
+    EXPECT(NIO_DONE, nio_make(&limits, &first));
+    EXPECT(NIO_DONE, nio_make(&limits, &other));
+    EXPECT(NIO_FULL_HANDLE, nio_take_back(&empty, &first));
+    EXPECT(NIO_SPENT, nio_take_back(&first, &second));
+    HOLD(!second.full);
+    EXPECT(NIO_DONE, nio_split(&first, 1, &second));
+    EXPECT(NIO_DONE, nio_split(&first, 2, &third));
+    for (int i = 0; i < 1000; i++) {
+        EXPECT(NIO_DONE, nio_give_back(&second));
+        EXPECT(NIO_EMPTY_HANDLE, nio_give_back(&second));
+        EXPECT(NIO_DONE, nio_give_back(&third));
+        EXPECT(NIO_NOT_HELD, nio_split(&first, 1, &second));
+        EXPECT(NIO_SPENT, nio_take_back(&other, &second));
+        EXPECT(NIO_DONE, nio_take_back(&first, &second));
+        EXPECT(NIO_DONE, nio_number(&second, &its));
+        EXPECT(NIO_DONE, nio_take_back(&second, &third));
+        EXPECT(NIO_DONE, nio_number(&third, &number));
+        HOLD((its == 1 && number == 2) || (its == 2 && number == 1));
+        EXPECT(NIO_SPENT, nio_take_back(&first, &empty));
+    }
+
+    /* A list, an interrupt, a selection and a closing in progress, and the numbers that it holds. */
+    EXPECT(NIO_DONE, nio_open_selector(&first, &selector));
+    EXPECT(NIO_DONE, nio_take_list(&second, selector, &answer));
+    HOLD(answer);
+    EXPECT(NIO_DONE, nio_interrupt(&first, its));
+    EXPECT(NIO_DONE, nio_begin(&second, selector, 0));
+    EXPECT(NIO_DONE, nio_give_back(&second));
+    EXPECT(NIO_BUSY, nio_begin(&third, selector, 0));
+    EXPECT(NIO_DONE, nio_take_back(&third, &second));
+    EXPECT(NIO_DONE, nio_interrupted(&second, &answer));
+    HOLD(answer);
+    EXPECT(NIO_DONE, nio_shut(&second, selector, &answer));
+    HOLD(answer);
+    EXPECT(NIO_DONE, nio_give_back(&second));
+    EXPECT(NIO_DONE, nio_take_back(&third, &second));
+    EXPECT(NIO_DONE, nio_leave(&second, selector));
+    EXPECT(NIO_DONE, nio_try_finish(&second, selector));
+    EXPECT(NIO_DONE, nio_free(&second));
+    EXPECT(NIO_DONE, nio_give_back(&first));
+    EXPECT(NIO_DONE, nio_take_back(&third, &second));
+    EXPECT(NIO_DONE, nio_number(&second, &number));
+    HOLD(number == 0);
+    EXPECT(NIO_NOT_HELD, nio_split(&second, 2, &first));
+
+    /* The last callers are let go with the table. */
+    EXPECT(NIO_DONE, nio_give_back(&second));
+    EXPECT(NIO_DONE, nio_give_back(&third));
+    EXPECT(NIO_DONE, nio_give_back(&other));
+}
+
 /* Each call on an empty handle. */
 static void empty_handles(void)
 {
@@ -379,6 +438,7 @@ int main(void)
 {
     nio_caller caller = {0}, other = {0};
     handles();
+    coming_back();
     empty_handles();
     EXPECT(NIO_DONE, nio_make(&limits, &caller));
     EXPECT(NIO_DONE, nio_split(&caller, 1, &other));

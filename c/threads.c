@@ -1,15 +1,17 @@
 /*
- * Threads make calls with names that they draw, also of what was never made, while another thread selects: says where a
- * status comes that the call doesn't have, or where the closed selector still has a key.
+ * Threads make calls with names that they draw, also of what was never made, while another thread selects; then many
+ * threads have few callers in turn. Says where a status comes that the call doesn't have, where the closed selector
+ * still has a key, or where a caller doesn't come back.
  */
 #include "nio.h"
 
 #include <pthread.h>
+#include <sched.h>
 #include <stdatomic.h>
 #include <stdio.h>
 #include <stdlib.h>
 
-enum { WORKERS = 3, CALLS = 200000, CHANNELS = 8, KEYS = 8, SERIALS = 3 };
+enum { WORKERS = 3, CALLS = 200000, CHANNELS = 8, KEYS = 8, SERIALS = 3, ROUNDS = 40, TOGETHER = 8 };
 
 static const nio_limits limits = {.callers = WORKERS + 1, .selectors = 2, .channels = CHANNELS, .keys = KEYS};
 
@@ -137,17 +139,55 @@ static void call_on_selector(worker *w)
     }
 }
 
-static void *work(void *argument)
+static void make_calls(worker *w, int calls)
 {
-    worker *w = argument;
-    for (int i = 0; i < CALLS; i++)
+    for (int i = 0; i < calls; i++)
         switch (draw(w, 3)) {
         case 0: call_on_channel(w); break;
         case 1: call_on_key(w); break;
         default: call_on_selector(w); break;
         }
+}
+
+static void *work(void *argument)
+{
+    make_calls(argument, CALLS);
     atomic_fetch_sub(&working, 1);
     return NULL;
+}
+
+/* The caller by whose handle the others are taken back, and the lock of that handle. */
+static nio_caller *desk;
+static pthread_mutex_t desk_lock = PTHREAD_MUTEX_INITIALIZER;
+
+/* Takes a caller back, once there is one, makes calls with it, and gives it back. */
+static void *take_turn(void *argument)
+{
+    worker *w = argument;
+    while (!w->caller.full) {
+        pthread_mutex_lock(&desk_lock);
+        ALLOW(nio_take_back(desk, &w->caller), BIT(NIO_SPENT));
+        pthread_mutex_unlock(&desk_lock);
+        sched_yield();
+    }
+    make_calls(w, 100);
+    ALLOW(nio_give_back(&w->caller), 0);
+    return NULL;
+}
+
+static bool take_turns(void)
+{
+    for (uint32_t round = 0; round < ROUNDS; round++) {
+        worker some[TOGETHER] = {0};
+        for (uint32_t i = 0; i < TOGETHER; i++) {
+            some[i].seed = round * TOGETHER + i + 1;
+            if (pthread_create(&some[i].thread, NULL, take_turn, &some[i]) != 0)
+                return false;
+        }
+        for (uint32_t i = 0; i < TOGETHER; i++)
+            pthread_join(some[i].thread, NULL);
+    }
+    return true;
 }
 
 /* One selection; what is told is drawn. It makes no more than some polls. */
@@ -207,9 +247,16 @@ int main(void)
     }
     while (atomic_load(&working) != 0)
         select_once(&selecting);
-    for (uint32_t i = 0; i < WORKERS; i++)
+    for (uint32_t i = 0; i < WORKERS; i++) {
         pthread_join(workers[i].thread, NULL);
+        ALLOW(nio_give_back(&workers[i].caller), 0);
+    }
+    desk = &selecting.caller;
+    if (!take_turns())
+        return 1;
     close_selector(&selecting.caller);
+    for (uint32_t i = 0; i < WORKERS; i++)
+        ALLOW(nio_take_back(&selecting.caller, &workers[i].caller), 0);
     for (uint32_t i = 0; i < WORKERS; i++)
         ALLOW(nio_free(&workers[i].caller), 0);
     ALLOW(nio_free(&selecting.caller), 0);

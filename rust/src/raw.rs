@@ -97,6 +97,8 @@ pub const NIO_REGISTERED: nio_status = 25;
 extern "C" {
     pub fn nio_make(limits: *const nio_limits, first: *mut nio_caller) -> nio_status;
     pub fn nio_split(caller: *mut nio_caller, number: u32, given: *mut nio_caller) -> nio_status;
+    pub fn nio_give_back(caller: *mut nio_caller) -> nio_status;
+    pub fn nio_take_back(caller: *mut nio_caller, given: *mut nio_caller) -> nio_status;
     pub fn nio_free(caller: *mut nio_caller) -> nio_status;
     pub fn nio_number(caller: *mut nio_caller, number: *mut u32) -> nio_status;
 

@@ -19,8 +19,8 @@ pub struct Limits {
     pub keys: u32,
 }
 
-/// What all callers share: selectors, channels and keys. It gives callers to threads. It is let go with the last of
-/// them.
+/// What all callers share: selectors, channels and keys. It gives callers to threads, and a caller that is dropped
+/// comes back to it. It is let go with the last of them.
 ///
 /// ```
 /// use nio_table::{Limits, Table};
@@ -28,8 +28,9 @@ pub struct Limits {
 /// let mut caller = table.caller()?;
 /// let selector = caller.open_selector()?;
 /// let mut other = table.caller()?;
-/// std::thread::spawn(move || other.wakeup(selector)).join().unwrap()?;
 /// assert!(table.caller().is_err());
+/// std::thread::spawn(move || other.wakeup(selector)).join().unwrap()?;
+/// assert!(table.caller().is_ok());
 /// # Ok::<(), Box<dyn std::error::Error>>(())
 /// ```
 pub struct Table {
@@ -58,13 +59,35 @@ impl Table {
         Ok(Table { keeper: Mutex::new(Keeper { caller, next: 1 }) })
     }
 
-    /// A further caller. Its number is its own for good: where it is dropped, nobody has that again.
+    /// A further caller: one that was dropped, or else one with a new number. It isn't interrupted, and has nothing in
+    /// progress but the closings that its number began.
     pub fn caller(&self) -> Result<Caller, CallerError> {
         let mut keeper = self.keeper.lock().unwrap_or_else(PoisonError::into_inner);
+        match keeper.take_back()? {
+            Some(caller) => Ok(caller),
+            None => keeper.split(),
+        }
+    }
+}
+
+impl Keeper {
+    /// A caller that was dropped, if there is one.
+    fn take_back(&mut self) -> Result<Option<Caller>, CallerError> {
         let mut given = Caller::empty();
-        let number = keeper.next;
-        answered(unsafe { raw::nio_split(&mut keeper.caller.handle, number, &mut given.handle) })?;
-        keeper.next += 1;
+        let status = unsafe { raw::nio_take_back(&mut self.caller.handle, &mut given.handle) };
+        if status == raw::NIO_SPENT {
+            return Ok(None);
+        }
+        answered(status)?;
+        given.interrupted();
+        Ok(Some(given))
+    }
+
+    /// A caller with a new number.
+    fn split(&mut self) -> Result<Caller, CallerError> {
+        let mut given = Caller::empty();
+        answered(unsafe { raw::nio_split(&mut self.caller.handle, self.next, &mut given.handle) })?;
+        self.next += 1;
         Ok(given)
     }
 }
@@ -75,8 +98,8 @@ impl Table {
 /// No call waits, but for the moment that another call takes. After `wakeup`, `interrupt` and `shut` the program rings
 /// what the selecting thread waits for, as an eventfd: the library can't.
 ///
-/// Selections and closings in progress are the caller's. Where a `Caller` is dropped, a selector that it began to close
-/// is never closed.
+/// Where a `Caller` is dropped its table has it, for the next who asks for a caller: with its number, the lists that it
+/// took, and the closings that it began.
 ///
 /// It may be sent to another thread, but makes one call at a time:
 ///
@@ -106,7 +129,8 @@ impl Caller {
 
 impl Drop for Caller {
     fn drop(&mut self) {
-        // (an empty handle is refused)
+        // (an empty handle is refused; that no place is free doesn't come)
+        unsafe { raw::nio_give_back(&mut self.handle) };
         unsafe { raw::nio_free(&mut self.handle) };
     }
 }
@@ -114,6 +138,28 @@ impl Drop for Caller {
 #[cfg(test)]
 mod tests {
     use super::*;
+    use std::thread;
+
+    #[test]
+    fn callers_in_turn() {
+        let table = Table::new(Limits { callers: 2, selectors: 1, channels: 1, keys: 1 }).unwrap();
+        let selector = table.caller().unwrap().open_selector().unwrap();
+        for _ in 0..50 {
+            thread::scope(|threads| {
+                for _ in 0..2 {
+                    threads.spawn(|| {
+                        let mut caller = table.caller().unwrap();
+                        let number = caller.number();
+                        assert!(!caller.interrupted());
+                        caller.interrupt(number).unwrap();
+                        caller.wakeup(selector).unwrap();
+                    });
+                }
+            });
+        }
+        let _all = (table.caller().unwrap(), table.caller().unwrap());
+        assert_eq!(table.caller().err(), Some(CallerError::Spent));
+    }
 
     #[test]
     fn limits() {

@@ -5,4 +5,5 @@ pub mod Filling
 pub mod HandleSteps
 pub mod Splitting
 pub mod Unselecting
+pub mod Visiting
 pub mod Written

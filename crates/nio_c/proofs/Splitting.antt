@@ -55,7 +55,7 @@ module _ (n : CallerNo) (old split given joined : Acting) (gives : GivesNumber n
     );
   }
 
-none_gone : (old : Acting) → HasAllBack old old
+pub none_gone : (old : Acting) → HasAllBack old old
 none_gone old = record {
   keeps = record { same = record { table = refl; number = refl }; lists = refl; progress = refl };
   sight = refl;

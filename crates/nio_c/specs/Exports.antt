@@ -29,10 +29,11 @@ abbrev pub ExportsHeld : {R : Type 0} → (Holding → Holding → R → Type 0)
 ExportsHeld Call status_of Wrote Untouched old new status =
     MatchBool old.full (Makes Call status_of Wrote old new status) (Refuses EmptyHandle Untouched old new status)
 
--- the caller made this call, and the room stays
+-- the caller made this call; the room stays, and no place was visited
 pub record ByCaller {R : Type 0} (Call : Acting → Acting → R → Type 0) (old new : Holding) (answer : R) : Type 0 where
   pub call : Call old.caller new.caller answer
   pub room : new.room ≡ old.room
+  pub visitor : new.visitor ≡ old.visitor
 
 -- an export that makes a caller's call
 abbrev pub Exports : {R : Type 0} → (Acting → Acting → R → Type 0) → (R → Status) → (R → Type 0) → Type 0

@@ -1,11 +1,14 @@
 pub mod Exports
 pub mod Handles
 pub mod Holding
+pub mod Leaving
 pub mod Lists
 pub mod Making
 pub mod Owned
+pub mod Places
 pub mod Selections
 pub mod Statuses
 pub mod Taking
 pub mod Values
+pub mod Visits
 pub mod Writing

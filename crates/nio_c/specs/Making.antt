@@ -1,5 +1,5 @@
 -- Making a table, giving a number away, letting a caller go.
-use Rattle.std.specs.Prelude.{◌≡◌, ◌≢◌, ◌↔◌, ◌⊎◌, ⊤, ℕ, true, MatchBool, IsTrue, Result, Ok, Err}
+use Rattle.std.specs.Prelude.{◌≡◌, ◌≢◌, ◌↔◌, ◌⊎◌, ⊤, ℕ, true, MatchBool, IsTrue, IfOk, Result, Ok, Err}
 use Rattle.nio_base.specs.Limits.{IsFit}
 use Rattle.nio_base.specs.declared.limits.Limits.{Limits}
 use Rattle.nio_base.specs.declared.numbers.CallerNo.{CallerNo}
@@ -9,8 +9,11 @@ use Rattle.nio_caller.specs.declared.refusal.SplitError.TheVariants.{NoHandle, N
 use Rattle.nio_history.specs.Conditions.{IsCaller}
 use Rattle.nio_history.specs.PassViews.{Holds}
 use Rattle.nio_words.specs.Passes.{limits_of}
-use Rattle.nio_c.specs.Exports.{Refuses}
-use Rattle.nio_c.specs.Handles.{IsEmpty}
+use Rattle.nio_select.specs.Listed.{ok_seen}
+use Rattle.nio_c.specs.Exports.{ByCaller, Refuses}
+use Rattle.nio_c.specs.Handles.{Has, IsEmpty}
+use Rattle.nio_c.specs.Holding.{Holding}
+use Rattle.nio_c.specs.Places.{rested}
 use Rattle.nio_c.specs.Statuses.{code}
 use Rattle.nio_c.specs.declared.handle.Handle.{Handle}
 use Rattle.nio_c.specs.declared.status.Status.TheVariants as status
@@ -68,14 +71,14 @@ Splits n old new (Ok given) = GivesAway n old new given
 Splits n old new (Err NotHeld) = (¬ MayGive n old) × (new ≡ old)
 Splits n old new (Err NoHandle) = HasAllBack old new
 
--- the new caller is in the handle
-pub record HasGiven (given : Acting) (handle : Handle) : Type 0 where
-  pub full : handle.full ≡ true
-  pub its : handle.holder.caller ≡ given
+-- the same; no place was visited, and what has the new caller shares the places
+pub record SplitsOff (n : CallerNo) (old new : Holding) (answer : Result Holding SplitError) : Type 0 where
+  pub call : ByCaller (Splits n) old new (ok_seen (λ given. given.caller) answer)
+  pub places : IfOk answer (λ given. given.visitor ≡ rested old.visitor)
 
--- the handle has the new caller, or is as it was
-abbrev pub IsGiven : Result Acting SplitError → Handle → Handle → Type 0
-IsGiven (Ok given) old new = HasGiven given new
+-- the new caller is behind the handle, or the handle is as it was
+abbrev pub IsGiven : {E : Type 0} → Result Holding E → Handle → Handle → Type 0
+IsGiven (Ok given) old new = Has new given
 IsGiven (Err error) old new = new ≡ old
 
 -- ---- letting a caller go

@@ -82,12 +82,14 @@ pub record Tells (s : SelNo) (enough : Bool) (poll : Poll) (old new : Holding)
       answer
   pub room : old.room ≤ new.room
   pub fits : length poll.pairs ≤ new.room
+  pub visitor : new.visitor ≡ old.visitor
 
 -- nothing was told: there was no memory for more than there was room for
 pub record LacksMemory (poll : Poll) (old new : Holding) : Type 0 where
   pub same : new.caller ≡ old.caller
   pub room : old.room ≤ new.room
   pub more : old.room < length poll.pairs
+  pub visitor : new.visitor ≡ old.visitor
 
 -- it tells its selection in progress what a poll found, or lacks memory
 abbrev pub TellsFound : SelNo → (enough : Bool) → Poll → Holding → Holding

@@ -16,6 +16,8 @@ use Rattle.nio_steps.specs.declared.refusal.ListError.TheVariants as list
 use Rattle.nio_steps.specs.declared.refusal.ReopenError.{ReopenError}
 use Rattle.nio_steps.specs.declared.refusal.ReopenError.TheVariants as reopen
 use Rattle.nio_steps.specs.declared.refusal.SelectorsSpent.{SelectorsSpent}
+use Rattle.nio_c.specs.declared.leaving.TakeBackError.{TakeBackError}
+use Rattle.nio_c.specs.declared.leaving.TakeBackError.TheVariants as take_back
 use Rattle.nio_c.specs.declared.status.Status.{Status}
 use Rattle.nio_c.specs.declared.status.Status.TheVariants as status
 
@@ -82,6 +84,10 @@ list_refusal list.Memory = status.NoMemory
 abbrev pub split_refusal : SplitError → Status
 split_refusal split.NotHeld = status.NotHeld
 split_refusal split.NoHandle = status.NoMemory
+
+abbrev pub take_back_refusal : TakeBackError → Status
+take_back_refusal take_back.NoneLeft = status.Spent
+take_back_refusal take_back.Memory = status.NoMemory
 
 abbrev pub spent_refusal : SelectorsSpent → Status
 spent_refusal spent = status.Spent

@@ -2,14 +2,15 @@
 ghost use Rattle.std.specs.Prelude.{◌≡◌, IfOk, MatchBool, MatchResult};
 ghost use Rattle.nio_base.specs.Limits.{IsFit};
 ghost use Rattle.nio_select.specs.Listed.{ok_seen};
-ghost use Rattle.nio_c.specs.Exports.{Exports, Refuses};
-ghost use Rattle.nio_c.specs.Making.{IsFirst, IsGiven, LetsGo, MakesTable, SaysNumber, Splits};
+ghost use Rattle.nio_c.specs.Exports.{Exports, ExportsHeld, Refuses};
+ghost use Rattle.nio_c.specs.Making.{IsFirst, IsGiven, LetsGo, MakesTable, SaysNumber, SplitsOff};
 ghost use Rattle.nio_c.specs.Statuses.{done, split_refusal, status_of};
 ghost use Rattle.nio_c.specs.Values.{as_limits, caller_no};
 ghost use Rattle.nio_c.specs.declared.status.Status.TheVariants as status;
 
 use crate::handle::Handle;
 use crate::kept::{Kept, Sharer};
+use crate::places::Visitor;
 use crate::status::{Refusal, Status};
 use crate::values::TableLimits;
 use nio_base::{CallerNo, Limits};
@@ -44,8 +45,10 @@ fn first_caller(alloc: Global, limits: Limits) -> Result<Box<Kept, Global>, Allo
     ensures { IfOk result (λ kept. IsFirst limits kept.value.caller) }
 {
     let (words, pass) = Words::make(alloc, limits)?;
+    let visitor = Visitor::first(alloc, &words)?;
     let table = Arc::new(alloc, words)?;
-    Ok(Box::new(alloc, Kept::new(alloc, Caller::first(table, pass)))?)
+    let caller = Caller::first(table, pass);
+    Ok(Box::new(alloc, Kept::new(alloc, caller, visitor))?)
 }
 
 /// Gives a number away, to a new caller at the same table.
@@ -58,7 +61,7 @@ pub extern "C" fn nio_split(
 ) -> u32
     ensures { MatchBool given.old.full
         (Refuses status.FullHandle (given.new ≡ given.old) caller.old caller.new result)
-        (Exports (Splits (caller_no number)) (status_of split_refusal)
+        (ExportsHeld (SplitsOff (caller_no number)) (status_of split_refusal)
         (λ answer. IsGiven answer given.old given.new) (given.new ≡ given.old)
         caller.old caller.new result) }
 {
@@ -68,7 +71,7 @@ pub extern "C" fn nio_split(
     let Some(mut kept) = caller.take(alloc) else {
         return Status::EmptyHandle.code();
     };
-    let split = split_off(alloc, &mut kept.caller, CallerNo(number));
+    let split = split_off(alloc, &mut kept, CallerNo(number));
     caller.put(kept);
     match split {
         Ok(boxed) => {
@@ -80,34 +83,43 @@ pub extern "C" fn nio_split(
 }
 
 // Gives a number away. Where there is no memory for the new caller, the number comes back: `NoHandle`.
-#[tactic(auto, using(crate::proofs::Splitting::all_back, crate::proofs::Splitting::split_refused))]
+#[tactic(auto, using(crate::proofs::Splitting::all_back, crate::proofs::Splitting::none_gone, crate::proofs::Splitting::split_refused))]
 fn split_off(
     alloc: Global,
-    acting: &mut Sharer,
+    acting: &mut Kept,
     number: CallerNo,
 ) -> Result<Box<Kept, Global>, SplitError>
-    ensures { Splits number acting.old acting.new (ok_seen (λ given. given.value.caller) result) }
+    ensures { SplitsOff number acting.old acting.new (ok_seen (λ given. given.value) result) }
 {
-    let given = match acting.split(number) {
+    let Some(visitor) = acting.visitor.another() else {
+        return Err(SplitError::NoHandle);
+    };
+    let given = match acting.caller.split(number) {
         Ok(given) => given,
         Err(error) => return Err(error),
     };
-    match on_heap(alloc, given) {
+    match on_heap(alloc, given, visitor) {
         Ok(kept) => Ok(kept),
         Err(given) => {
-            acting.join(given);
+            acting.caller.join(given);
             Err(SplitError::NoHandle)
         }
     }
 }
 
 // Puts a caller on the heap, or gives it back where there is no memory.
-fn on_heap(alloc: Global, caller: Sharer) -> Result<Box<Kept, Global>, Sharer>
-    ensures { MatchResult result (λ kept. kept.value.caller ≡ caller) (λ same. same ≡ caller) }
+pub(crate) fn on_heap(
+    alloc: Global,
+    caller: Sharer,
+    visitor: Visitor,
+) -> Result<Box<Kept, Global>, Sharer>
+    requires { visitor.table ≡ caller.table }
+    ensures caller { MatchResult result (λ kept. kept.value.caller ≡ caller) (λ same. same ≡ caller) }
+    ensures visitor { IfOk result (λ kept. kept.value.visitor ≡ visitor) }
 {
-    match Box::new(alloc, Kept::new(alloc, caller)) {
+    match Box::new(alloc, Kept::new(alloc, caller, visitor)) {
         Ok(kept) => Ok(kept),
-        Err(failed) => Err(failed.value.into_caller()),
+        Err(failed) => Err(failed.value.into_parts().0),
     }
 }
 

@@ -22,6 +22,8 @@ impl Model for Handle {
     ghost also_owns = { λ h. handle_owns h.full h.at h.holder };
 }
 
+unsafe impl Send for Handle {}
+
 impl Handle {
     ghost use Rattle.std.specs.Prelude.{◌≡◌, true, MatchOption};
     ghost use Rattle.nio_c.specs.Handles.{Has, IsEmpty};

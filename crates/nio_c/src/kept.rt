@@ -7,6 +7,7 @@ ghost use Rattle.nio_c.specs.Selections.{told_changes};
 ghost use Rattle.nio_c.specs.Values.{as_told};
 ghost use Rattle.nio_c.specs.Writing.{counted_on, written_on};
 
+use crate::places::Visitor;
 use crate::values::Pair;
 use crate::writing::Writing;
 use nio_base::{Ops, SelNo};
@@ -22,28 +23,39 @@ use std::sync::Arc;
 /// A caller that shares its table.
 pub(crate) type Sharer = Caller<Arc<Words, Global>>;
 
-/// A caller, and what it was told last: the memory of that serves again.
+/// A caller, a visitor to the places at its table where callers are left, and what it was told last: the memory of that
+/// serves again.
 #[derive(Drop)]
-pub(crate) struct Kept {
+pub struct Kept {
     pub(crate) caller: Sharer,
+    pub(crate) visitor: Visitor,
     told: Told,
 }
 
 impl Model for Kept {
-    ghost use Rattle.std.specs.Prelude.{vec_capacity};
+    ghost use Rattle.std.specs.Prelude.{◌≡◌, vec_capacity};
     ghost use Rattle.nio_c.specs.Holding.{Holding};
 
     ghost Value = { Holding };
 
-    ghost view = { λ kept. record { caller = kept.caller; room = vec_capacity kept.told.pairs } };
+    ghost view = { λ kept. record {
+      caller = kept.caller;
+      room = vec_capacity kept.told.pairs;
+      visitor = kept.visitor;
+    } };
+
+    ghost invariant = { λ kept. kept.visitor.table ≡ kept.caller.table };
 }
 
 impl Kept {
-    pub(crate) fn new(alloc: Global, caller: Sharer) -> Kept
-        ensures { result.caller ≡ caller }
+    pub(crate) fn new(alloc: Global, caller: Sharer, visitor: Visitor) -> Kept
+        requires { visitor.table ≡ caller.table }
+        ensures caller { result.caller ≡ caller }
+        ensures visitor { result.visitor ≡ visitor }
     {
         Kept {
             caller,
+            visitor,
             told: Told {
                 pairs: Vec::new(alloc),
                 elapsed: false,
@@ -51,14 +63,16 @@ impl Kept {
         }
     }
 
-    pub(crate) fn into_caller(self) -> Sharer
-        ensures { result ≡ self.caller }
+    pub(crate) fn into_parts(self) -> (Sharer, Visitor)
+        ensures parts { result ≡ (self.caller, self.visitor) }
+        ensures table { result.1.table ≡ result.0.table }
     {
         let Kept {
             caller,
+            visitor,
             told: _told,
         } = self;
-        caller
+        (caller, visitor)
     }
 
     // Tells the caller's selection in progress what a poll found; the lister takes note of what that does to keys. None:

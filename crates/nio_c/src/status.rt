@@ -2,8 +2,9 @@
 ghost use Rattle.std.specs.Prelude.{◌≡◌};
 ghost use Rattle.nio_c.specs.Statuses.{begin_refusal, call_refusal, channel_refusal, code};
 ghost use Rattle.nio_c.specs.Statuses.{key_refusal, list_refusal, reopen_refusal, selecting_refusal, spent_refusal};
-ghost use Rattle.nio_c.specs.Statuses.{split_refusal, status_found};
+ghost use Rattle.nio_c.specs.Statuses.{split_refusal, status_found, take_back_refusal};
 
+use crate::leaving::TakeBackError;
 use nio_caller::{CallError, NotSelecting, SplitError};
 use nio_steps::{BeginError, ChannelError, KeyError, ListError, ReopenError, SelectorsSpent};
 
@@ -122,6 +123,17 @@ impl Refusal for SplitError {
         match self {
             SplitError::NotHeld => Status::NotHeld,
             SplitError::NoHandle => Status::NoMemory,
+        }
+    }
+}
+
+impl Refusal for TakeBackError {
+    ghost refusal = { take_back_refusal };
+
+    fn status(self) -> Status {
+        match self {
+            TakeBackError::NoneLeft => Status::Spent,
+            TakeBackError::Memory => Status::NoMemory,
         }
     }
 }

@@ -31,8 +31,8 @@ Wrote old new answer = new ≡ result_unwrap_or (ok_seen key_of answer) old
 pub returns : goal.returns
 returns c =
     let room = vec_capacity c.behind-kept.inside.told.pairs in
-    let before : Holding = record { caller = c.behind-kept.inside.caller; room = room } in
-    let after : Holding = record { caller = c.try_register-answer.new.self; room = room } in
+    let before : Holding = record { caller = c.behind-kept.inside.caller; room = room; visitor = c.behind-kept.inside.visitor } in
+    let after : Holding = record { caller = c.try_register-answer.new.self; room = room; visitor = c.behind-kept.inside.visitor } in
     exported (Registers (sel_no c.args.selector) (channel_id c.args.channel) c.args.ops c.args.attachment)
     (status_of (call_refusal channel_refusal)) (Wrote c.args.key.now c.write_key.new.key)
     (c.write_key.new.key ≡ c.args.key.now) c.args.caller.now c.put.new.self c.code-2.result before after
@@ -47,5 +47,6 @@ returns c =
           (λ (o : ℕ). Registers (sel_no c.args.selector) c.id.result o c.args.attachment before.caller after.caller
           c.try_register-answer.result) c.of.ensures c.try_register-answer.ensures.call);
       room = refl;
+      visitor = refl;
     })
     c.write_key.ensures.key (c.code-2.ensures ∙ ap code c.write_key.ensures.status)

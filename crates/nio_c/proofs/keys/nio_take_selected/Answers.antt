@@ -20,8 +20,8 @@ Takes s c = Calls (λ l. TakesSelected l c s)
 pub returns : goal.returns
 returns c =
     let room = vec_capacity c.behind-kept.inside.told.pairs in
-    let before : Holding = record { caller = c.behind-kept.inside.caller; room = room } in
-    let after : Holding = record { caller = c.take_selected-answer.new.self; room = room } in
+    let before : Holding = record { caller = c.behind-kept.inside.caller; room = room; visitor = c.behind-kept.inside.visitor } in
+    let after : Holding = record { caller = c.take_selected-answer.new.self; room = room; visitor = c.behind-kept.inside.visitor } in
     exported (Takes (sel_no c.args.selector) (channel_id c.args.channel))
     (λ answer. status_found status.NoSuchKey (is_some answer))
     (λ answer. c.write_found.new.key ≡ unwrap_or (option_map key_of answer) c.args.key.now)
@@ -34,5 +34,6 @@ returns c =
           (λ (h : ChanId). Takes (sel_no c.args.selector) h c.behind-kept.inside.caller c.take_selected-answer.new.self
           c.take_selected-answer.result) c.id.ensures c.take_selected-answer.ensures.call;
       room = refl;
+      visitor = refl;
     })
     c.write_found.ensures.key (c.code-2.ensures ∙ ap code c.write_found.ensures.status)
