@@ -1,9 +1,9 @@
 /*
  * The native methods of nio.provider.Table: a proved table with one selector, an epoll descriptor and a bell.
  *
- * Callers are lent to threads. Cell 0 has the caller of selections: its methods (start, begin, look, poll, tell, sweep,
- * leave, cancel) are called with the selector's monitor. Every other method takes one of the other cells for the time
- * of the call. A cell that is GONE is of a table that was let go: its caller makes no more calls.
+ * Callers are lent to threads. Cell 0 has the caller of selections: its methods (start, poll, tell, leave, remove) are
+ * called with the selector's monitor. Every other method takes one of the other cells for the time of the call. A cell
+ * that is GONE is of a table that was let go: its caller makes no more calls.
  *
  * An answer below 0 is minus a status of nio.h, or one of nio.provider.Table's own.
  */
@@ -55,7 +55,9 @@ typedef struct place {
     uint32_t key;    /* and that one's serial */
     uint32_t events; /* what epoll watches for */
     uint32_t next;   /* of the channels of its kind that are closed */
+    uint32_t at;     /* where it is in what the last poll found */
     nio_ops interest;
+    bool selected; /* before a selection with an action: its key was in the selected set */
 } place;
 
 typedef struct table {
@@ -70,6 +72,7 @@ typedef struct table {
     place *places;
     nio_looked *asked;
     nio_pair *pairs;
+    nio_changed *marked; /* what the table marked */
     struct epoll_event *events;
     uint32_t *found;   /* the channels that the last poll found */
     jint (*names)[3];  /* what Java is given of each */
@@ -172,6 +175,7 @@ static void let_go(table *t)
     free(t->places);
     free(t->asked);
     free(t->pairs);
+    free(t->marked);
     free(t->events);
     free(t->found);
     free(t->names);
@@ -196,11 +200,12 @@ static bool make_room(table *t, uint32_t channels)
     t->places = calloc(channels, sizeof *t->places);
     t->asked = malloc(t->keys * sizeof *t->asked);
     t->pairs = malloc(EVENTS * sizeof *t->pairs);
+    t->marked = malloc(EVENTS * sizeof *t->marked);
     t->events = malloc(EVENTS * sizeof *t->events);
     t->found = malloc(EVENTS * sizeof *t->found);
     t->names = malloc(EVENTS * sizeof *t->names);
-    return t->places != NULL && t->asked != NULL && t->pairs != NULL && t->events != NULL && t->found != NULL &&
-           t->names != NULL;
+    return t->places != NULL && t->asked != NULL && t->pairs != NULL && t->marked != NULL && t->events != NULL &&
+           t->found != NULL && t->names != NULL;
 }
 
 static bool make_descriptors(table *t)
@@ -349,14 +354,6 @@ static nio_status begin_for(table *t, jlong ms)
     return nio_begin(selecting(t), t->selector, ms == 0 ? INT64_MAX : ms);
 }
 
-/* As the JDK's, a selection is over once a poll found anything, also where only such keys are ready as are selected
- * with these operations already, or where Java knows that what was found is cancelled: its time is said to be over
- * then. */
-static nio_status tell_pairs(table *t, size_t count, bool elapsed, nio_selected *selected)
-{
-    return nio_told(selecting(t), t->selector, t->pairs, count, elapsed || count > 0, false, selected);
-}
-
 /* Polls once. Answers how many events there are, or FAILED, where Java has an exception. */
 static jint wait_for(JNIEnv *env, table *t, int timeout)
 {
@@ -380,8 +377,9 @@ static jint write_found(JNIEnv *env, table *t, jint count, jintArray found)
             silence(t);
             continue;
         }
-        const place *p = &t->places[number];
+        place *p = &t->places[number];
         jint *names = t->names[written];
+        p->at = (uint32_t)written;
         names[0] = (jint)p->index;
         names[1] = (jint)t->events[i].events;
         names[2] = p->interest;
@@ -411,7 +409,7 @@ static jint go_on(JNIEnv *env, table *t, jlong ms, jint count, jintArray found)
     nio_selected selected;
     if (count != 0)
         return count;
-    nio_status status = tell_pairs(t, 0, false, &selected);
+    nio_status status = nio_told(selecting(t), t->selector, t->pairs, 0, false, false, &selected);
     if (status == NIO_AGAIN)
         return poll_once(env, t, timeout_of(ms), found);
     return status == NIO_DONE ? OVER : answer(status);
@@ -456,57 +454,69 @@ NATIVE(jint, start, jlong ms, jintArray found)
     return settled && ms == nio_provider_Table_NOW ? start_settled(env, t, found) : start_at(env, t, ms, found);
 }
 
-NATIVE(jint, begin, jlong ms)
-{
-    return answer(begin_for(table_of(env, self), ms));
-}
-
-NATIVE(jint, look, jlong ms, jintArray found)
-{
-    return look_for(env, table_of(env, self), ms, found);
-}
-
 NATIVE(jint, poll, jlong ms, jintArray found)
 {
     return poll_once(env, table_of(env, self), timeout_of(ms), found);
 }
 
-/* The ready set of each key that was found. */
-static void read_ready(table *t, jint count, jint *ready)
+/* The key of a channel that the last poll found. */
+static nio_key key_found(const table *t, const place *p)
+{
+    return (nio_key){t->selector, p->index, p->key};
+}
+
+/* Takes each key that is told of out of the selected set: so the table marks it, selected before or not. */
+static void unselect_told(table *t, jint count, const jint *ops)
 {
     for (jint i = 0; i < count; i++) {
-        const place *p = &t->places[t->found[i]];
-        nio_ops ops = 0;
-        nio_ready(selecting(t), (nio_key){t->selector, p->index, p->key}, &ops);
-        ready[i] = ops;
+        place *p = &t->places[t->found[i]];
+        if (ops[i] != 0)
+            nio_unselect(selecting(t), key_found(t, p), &p->selected);
     }
 }
 
-/* Tells what each key that the last poll found is ready for, and writes the ready sets that the table has then. */
-NATIVE(jint, tell, jintArray told, jintArray ready, jint count, jboolean elapsed)
+/* Takes out again what wasn't selected before. */
+static void unselect_added(table *t, jint count, const jint *ops)
+{
+    bool taken;
+    for (jint i = 0; i < count; i++) {
+        const place *p = &t->places[t->found[i]];
+        if (ops[i] != 0 && !p->selected)
+            nio_unselect(selecting(t), key_found(t, p), &taken);
+    }
+}
+
+/* Tells the table. As the JDK's, a selection is over once a poll found anything, also where only such keys are ready as
+ * are selected with these operations already, or where Java knows that what was found is cancelled: its time is said to
+ * be over then. `ops` gets the ready set of each key that the table marked, and 0 for each other one. It marks no more
+ * than it is told of, and removes none: a key is cancelled in the table by `remove` alone, which removes it too. */
+static nio_status tell_found(table *t, jint count, jint *ops, bool elapsed, nio_selected *selected)
+{
+    size_t marked = 0;
+    for (jint i = 0; i < count; i++)
+        t->pairs[i] = (nio_pair){.index = t->places[t->found[i]].index, .ready = (nio_ops)ops[i]};
+    nio_status status = nio_told_listing(selecting(t), t->selector, t->pairs, (size_t)count, elapsed || count > 0,
+                                         false, selected, t->marked, EVENTS, &marked);
+    memset(ops, 0, (size_t)count * sizeof *ops);
+    for (size_t i = 0; i < marked; i++)
+        ops[t->places[t->marked[i].channel].at] = t->marked[i].ready;
+    return status;
+}
+
+/* Tells what each key that the last poll found is ready for, and writes what the table marked. */
+NATIVE(jint, tell, jintArray told, jint count, jboolean elapsed, jboolean consumes)
 {
     table *t = table_of(env, self);
     nio_selected selected = {0};
     jint *ops = t->names[0];
-    if (count > 0)
-        (*env)->GetIntArrayRegion(env, told, 0, count, ops);
-    for (jint i = 0; i < count; i++)
-        t->pairs[i] = (nio_pair){.index = t->places[t->found[i]].index, .ready = (nio_ops)ops[i]};
-    nio_status status = tell_pairs(t, (size_t)count, elapsed, &selected);
-    if (count > 0) {
-        read_ready(t, count, ops);
-        (*env)->SetIntArrayRegion(env, ready, 0, count, ops);
-    }
+    (*env)->GetIntArrayRegion(env, told, 0, count, ops);
+    if (consumes)
+        unselect_told(t, count, ops);
+    nio_status status = tell_found(t, count, ops, elapsed, &selected);
+    if (consumes)
+        unselect_added(t, count, ops);
+    (*env)->SetIntArrayRegion(env, told, 0, count, ops);
     return answer_or(status, (jint)selected.count);
-}
-
-/* Removes the keys that were cancelled, by a selection that finds nothing. */
-NATIVE(jint, sweep)
-{
-    table *t = table_of(env, self);
-    nio_selected selected;
-    nio_status status = nio_begin_now(selecting(t), t->selector);
-    return answer(status == NIO_DONE ? tell_pairs(t, 0, false, &selected) : status);
 }
 
 /* Ends a selection that failed. A wakeup stays pending, so the bell rings again. */
@@ -517,10 +527,9 @@ NATIVE(void, leave)
         ring(t);
 }
 
-NATIVE(void, cancel, jint index, jint serial)
+static nio_key key_named(const table *t, const jint *names)
 {
-    table *t = table_of(env, self);
-    nio_cancel(selecting(t), (nio_key){t->selector, (uint32_t)index, (uint32_t)serial});
+    return (nio_key){t->selector, (uint32_t)names[1], (uint32_t)names[2]};
 }
 
 /* ---- registering: Java lets one thread at a time do it ---- */
@@ -588,17 +597,31 @@ NATIVE(jint, register, jint fd, jint kind, jint ops, jintArray names)
 }
 
 /* Lets a channel go whose key was removed. */
-NATIVE(void, forget, jint number)
+static void forget(table *t, uint32_t number)
+{
+    if (t->places[number].events != 0)
+        epoll_ctl(t->poll, EPOLL_CTL_DEL, t->places[number].fd, NULL);
+    close_channel(t, selecting(t), number);
+}
+
+/* Cancels these keys, and removes them by a selection that only begins: a wakeup stays pending. */
+NATIVE(jint, remove, jintArray names)
 {
     table *t = table_of(env, self);
-    cell *c = take(t, env);
-    if (c == NULL)
-        return;
-    place *p = &t->places[number];
-    if (p->events != 0)
-        epoll_ctl(t->poll, EPOLL_CTL_DEL, p->fd, NULL);
-    close_channel(t, &c->caller, (uint32_t)number);
-    give(c);
+    jsize count = (*env)->GetArrayLength(env, names) / 3;
+    jint *each = (*env)->GetIntArrayElements(env, names, NULL);
+    if (each == NULL)
+        return answer(NIO_NO_MEMORY);
+    for (jsize i = 0; i < count; i++)
+        nio_cancel(selecting(t), key_named(t, each + 3 * i));
+    nio_status status = nio_begin_now(selecting(t), t->selector);
+    if (status == NIO_DONE) {
+        nio_leave(selecting(t), t->selector);
+        for (jsize i = 0; i < count; i++)
+            forget(t, (uint32_t)each[3 * i]);
+    }
+    (*env)->ReleaseIntArrayElements(env, names, each, JNI_ABORT);
+    return answer(status);
 }
 
 /* ---- calls of any thread ---- */
@@ -711,4 +734,21 @@ NATIVE(jboolean, unselect, jint index, jint serial)
     nio_unselect(&call.cell->caller, call.key, &taken);
     give(call.cell);
     return taken;
+}
+
+/* Takes all these keys out of the selected set. */
+NATIVE(void, unselectAll, jintArray names)
+{
+    table *t = table_of(env, self);
+    bool taken;
+    jsize count = (*env)->GetArrayLength(env, names) / 3;
+    cell *c = take(t, env);
+    if (c == NULL)
+        return;
+    jint *each = (*env)->GetPrimitiveArrayCritical(env, names, NULL);
+    for (jsize i = 0; each != NULL && i < count; i++)
+        nio_unselect(&c->caller, key_named(t, each + 3 * i), &taken);
+    if (each != NULL)
+        (*env)->ReleasePrimitiveArrayCritical(env, names, each, JNI_ABORT);
+    give(c);
 }

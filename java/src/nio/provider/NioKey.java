@@ -6,6 +6,7 @@ import java.nio.channels.SelectionKey;
 import java.nio.channels.Selector;
 import java.nio.channels.SocketChannel;
 import java.nio.channels.spi.AbstractSelectionKey;
+import java.util.Collection;
 import sun.nio.ch.Net;
 import sun.nio.ch.SelChImpl;
 
@@ -24,7 +25,7 @@ final class NioKey extends AbstractSelectionKey {
     private final int index;
     private final int serial;
 
-    /** The table's ready set, which selections alone change. */
+    /** The table's ready set: selections alone change it. */
     private volatile int ready;
 
     NioKey(NioSelector selector, SelChImpl channel, Table table, int[] names) {
@@ -79,7 +80,7 @@ final class NioKey extends AbstractSelectionKey {
         return ready;
     }
 
-    /** The ready set that the table has, after a selection that was told of this key. */
+    /** The ready set that the table has since it marked this key. */
     void setReady(int ops) {
         ready = ops;
     }
@@ -98,9 +99,17 @@ final class NioKey extends AbstractSelectionKey {
         }
     }
 
-    /** The number that the table has for the channel, until the key is removed. */
-    int number() {
-        return number;
+    /** Of each key the number that the table has for its channel until the key is removed, its index and its serial. */
+    static int[] names(Collection<? extends SelectionKey> keys) {
+        int[] names = new int[3 * keys.size()];
+        int at = 0;
+        for (SelectionKey each : keys) {
+            NioKey key = (NioKey) each;
+            names[at++] = key.number;
+            names[at++] = key.index;
+            names[at++] = key.serial;
+        }
+        return names;
     }
 
     int index() {

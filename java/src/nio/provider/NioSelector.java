@@ -34,7 +34,7 @@ final class NioSelector extends AbstractSelector {
 
     private final Table table = new Table();
     private final Set<SelectionKey> keys = Collections.unmodifiableSet(new KeySet(this, table));
-    private final SelectedKeySet selectedKeys = new SelectedKeySet();
+    private final SelectedKeySet selectedKeys = new SelectedKeySet(table);
 
     /** Who registers a key, lets its channel go, or lets the table go has this monitor. */
     private final Object registry = new Object();
@@ -47,12 +47,10 @@ final class NioSelector extends AbstractSelector {
 
     private final NioKey[] foundKeys = new NioKey[Table.MOST_FOUND];
     private final int[] told = new int[Table.MOST_FOUND];
-    private final int[] ready = new int[Table.MOST_FOUND];
-    private final Telling telling = this::tellSelected;
     private boolean isSelecting;
 
-    /** The keys that were cancelled in the table, and weren't found removed yet. */
-    private final Deque<NioKey> leaving = new ArrayDeque<>();
+    /** The keys that the table has removed, and that Java still has. */
+    private final Deque<NioKey> removed = new ArrayDeque<>();
 
     NioSelector(SelectorProvider provider) throws IOException {
         super(provider);
@@ -189,11 +187,6 @@ final class NioSelector extends AbstractSelector {
         return timeout;
     }
 
-    /** Tells the table of so many keys: how many were updated, or minus {@code AGAIN}. */
-    private interface Telling {
-        int tell(int count, boolean elapsed);
-    }
-
     private int lockAndSelect(Consumer<SelectionKey> action, long ms) throws IOException {
         synchronized (this) {
             ensureOpen();
@@ -203,7 +196,7 @@ final class NioSelector extends AbstractSelector {
             isSelecting = true;
             try {
                 synchronized (selectedKeys) {
-                    return action == null ? selectKeys(ms, telling) : consume(action, ms);
+                    return action == null ? selectKeys(ms, null) : consume(action, ms);
                 }
             } finally {
                 isSelecting = false;
@@ -211,26 +204,28 @@ final class NioSelector extends AbstractSelector {
         }
     }
 
+    /** A selection with an action: its keys don't come into the selected set, and no key of that leaves it. */
     private int consume(Consumer<SelectionKey> action, long ms) throws IOException {
-        Consuming how = new Consuming();
-        selectKeys(ms, how);
-        return how.consume(action);
+        List<NioKey> consumed = new ArrayList<>();
+        selectKeys(ms, consumed);
+        for (NioKey key : consumed) {
+            action.accept(key);
+            ensureOpen();
+        }
+        return consumed.size();
     }
 
-    private int selectKeys(long ms, Telling how) throws IOException {
+    /** Selects: the keys that the table marks come to those that are consumed, else into the selected set. */
+    private int selectKeys(long ms, List<NioKey> consumed) throws IOException {
         boolean waits = ms != Table.NOW;
         boolean isOver = false;
-        boolean begins = !cancelAll();
+        // The keys that were cancelled before are gone, and their channels closed, before it waits.
+        removeCancelled();
         try {
-            // The keys that were cancelled before are gone, and their channels closed, before it waits.
-            if (!begins) {
-                Table.accepted(table.begin(ms));
-                removeAll();
-            }
             if (waits) {
                 begin();
             }
-            int updated = poll(ms, begins, how);
+            int updated = poll(ms, consumed);
             isOver = true;
             return updated;
         } finally {
@@ -240,17 +235,17 @@ final class NioSelector extends AbstractSelector {
             if (!isOver) {
                 table.leave();
             }
-            sweep();
+            removeCancelled();
         }
     }
 
     /** Polls until the selection is over. */
-    private int poll(long ms, boolean begins, Telling how) throws IOException {
+    private int poll(long ms, List<NioKey> consumed) throws IOException {
         long end = ms > 0 ? System.nanoTime() + nanos(ms) : 0;
-        int count = begins ? table.start(ms, found) : table.look(ms, found);
+        int count = table.start(ms, found);
         while (count != Table.OVER) {
             long left = ms > 0 && count == 0 ? end - System.nanoTime() : 1;
-            int updated = how.tell(translate(Table.accepted(count)), left <= 0);
+            int updated = tell(translate(Table.accepted(count)), left <= 0, consumed);
             Arrays.fill(foundKeys, 0, count, null);
             if (updated != -Table.AGAIN) {
                 return Table.accepted(updated);
@@ -279,56 +274,23 @@ final class NioSelector extends AbstractSelector {
         return count;
     }
 
-    /** Tells the table of what was found, and the keys of what it has then. */
-    private int tell(int count, boolean elapsed) {
-        int updated = table.tell(told, ready, count, elapsed);
+    /** Tells the table of what was found: how many keys it updated, or minus {@code AGAIN}. */
+    private int tell(int count, boolean elapsed, List<NioKey> consumed) {
+        int updated = table.tell(told, count, elapsed, consumed != null);
         for (int i = 0; i < count; i++) {
-            foundKeys[i].setReady(ready[i]);
-        }
-        return updated;
-    }
-
-    /** The same, and the keys that are ready come into the selected set. */
-    private int tellSelected(int count, boolean elapsed) {
-        int updated = tell(count, elapsed);
-        for (int i = 0; i < count && updated >= 0; i++) {
             if (told[i] != 0) {
-                selectedKeys.select(foundKeys[i]);
+                mark(foundKeys[i], told[i], consumed);
             }
         }
         return updated;
     }
 
-    /**
-     * A selection with an action, whose keys don't come into the selected set. A key that is selected already is taken
-     * out before the table is told of it, so that it counts and has only what it is ready for now, and is selected
-     * again by that; each other one is taken out afterwards.
-     */
-    private final class Consuming implements Telling {
-        private final List<NioKey> consumed = new ArrayList<>();
-
-        @Override
-        public int tell(int count, boolean elapsed) {
-            List<NioKey> added = new ArrayList<>();
-            for (int i = 0; i < count; i++) {
-                if (told[i] != 0) {
-                    consumed.add(foundKeys[i]);
-                    if (!foundKeys[i].unselect()) {
-                        added.add(foundKeys[i]);
-                    }
-                }
-            }
-            int updated = NioSelector.this.tell(count, elapsed);
-            added.forEach(NioKey::unselect);
-            return updated;
-        }
-
-        int consume(Consumer<SelectionKey> action) {
-            for (NioKey key : consumed) {
-                action.accept(key);
-                ensureOpen();
-            }
-            return consumed.size();
+    private void mark(NioKey key, int ready, List<NioKey> consumed) {
+        key.setReady(ready);
+        if (consumed == null) {
+            selectedKeys.select(key);
+        } else {
+            consumed.add(key);
         }
     }
 
@@ -340,52 +302,46 @@ final class NioSelector extends AbstractSelector {
 
     // ---- cancelling and closing ----
 
-    /** Cancels in the table what was cancelled since the last time. Answers whether the table has keys to remove. */
-    private boolean cancelAll() {
+    /** Removes the keys that were cancelled since the last time. A closing removes all by itself. */
+    private void removeCancelled() throws IOException {
         Set<SelectionKey> cancelled = cancelledKeys();
         // What was cancelled before, by this thread or by one that it has heard of, is seen without the lock too.
         if (!cancelled.isEmpty()) {
             synchronized (cancelled) {
-                for (SelectionKey key : cancelled) {
-                    leaving.add((NioKey) key);
+                if (remove(cancelled)) {
+                    cancelled.clear();
                 }
-                cancelled.clear();
-            }
-            leaving.forEach(key -> table.cancel(key.index(), key.serial()));
-        }
-        return !leaving.isEmpty();
-    }
-
-    /** Removes the keys that were cancelled while the selection was in progress. A closing removes them by itself. */
-    private void sweep() throws IOException {
-        if (cancelAll()) {
-            int answer = table.sweep();
-            if (answer != -Table.CLOSED_SELECTOR) {
-                Table.accepted(answer);
-                removeAll();
             }
         }
+        release();
     }
 
-    /** What Java has of the keys that the table has removed goes. */
-    private void removeAll() throws IOException {
-        while (!leaving.isEmpty()) {
-            NioKey key = leaving.remove();
-            synchronized (registry) {
-                keyAt.compareAndSet(key.index(), key, null);
-                table.forget(key.number());
+    /** Removes these keys. Answers whether the table has: it hasn't where the selector is being closed. */
+    private boolean remove(Set<SelectionKey> cancelled) {
+        synchronized (registry) {
+            int answer = table.remove(NioKey.names(cancelled));
+            if (answer == -Table.CLOSED_SELECTOR) {
+                return false;
             }
+            Table.accepted(answer);
+            for (SelectionKey key : cancelled) {
+                keyAt.set(((NioKey) key).index(), null);
+                removed.add((NioKey) key);
+            }
+            return true;
+        }
+    }
+
+    /** The channels of removed keys aren't registered here any more. Where one is closed, so is its descriptor now. */
+    private void release() throws IOException {
+        while (!removed.isEmpty()) {
+            NioKey key = removed.remove();
             selectedKeys.forget(key);
-            release(key);
-        }
-    }
-
-    /** The channel isn't registered here any more. Where it is closed, its descriptor is closed now. */
-    private void release(NioKey key) throws IOException {
-        deregister(key);
-        SelectableChannel channel = key.channel();
-        if (!channel.isOpen() && !channel.isRegistered()) {
-            key.selectable().kill();
+            deregister(key);
+            SelectableChannel channel = key.channel();
+            if (!channel.isOpen() && !channel.isRegistered()) {
+                key.selectable().kill();
+            }
         }
     }
 
@@ -400,10 +356,10 @@ final class NioSelector extends AbstractSelector {
                 for (int index = 0; index < keyAt.length(); index++) {
                     NioKey key = keyAt.getAndSet(index, null);
                     if (key != null) {
-                        selectedKeys.forget(key);
-                        release(key);
+                        removed.add(key);
                     }
                 }
+                release();
             }
         }
     }

@@ -9,11 +9,16 @@ import java.util.Set;
 
 /**
  * The selected set. The table has it; this is a copy, so that who goes over it doesn't go over all keys. A key comes in
- * where the table was told that it is ready, and goes out where the table takes it out. As in the JDK it isn't safe
- * between threads: selections have its monitor.
+ * where the table marks it, and goes out where the table takes it out. As in the JDK it isn't safe between threads:
+ * selections have its monitor.
  */
 final class SelectedKeySet extends AbstractSet<SelectionKey> {
+    private final Table table;
     private final Set<NioKey> keys = new HashSet<>();
+
+    SelectedKeySet(Table table) {
+        this.table = table;
+    }
 
     /** The table has selected this key. */
     void select(NioKey key) {
@@ -67,7 +72,7 @@ final class SelectedKeySet extends AbstractSet<SelectionKey> {
 
     @Override
     public void clear() {
-        keys.forEach(NioKey::unselect);
+        table.unselectAll(NioKey.names(keys));
         keys.clear();
     }
 

@@ -101,43 +101,33 @@ final class Table {
 
     // ---- native/table.c: with the selector's monitor ----
 
-    /** Begins a selection and looks. */
-    native int start(long ms, int[] found) throws IOException;
-
-    /** The first half of {@code start}. The keys that were cancelled are removed then. */
-    native int begin(long ms);
-
     /**
-     * The second half: how many keys a poll found, or {@code OVER}. Of each the index, the events and the interest are
-     * written. It waits for at most so many milliseconds.
+     * Begins a selection and polls: how many keys that found, or {@code OVER}. Of each the index, the events and the
+     * interest are written. It waits for at most so many milliseconds.
      */
-    native int look(long ms, int[] found) throws IOException;
+    native int start(long ms, int[] found) throws IOException;
 
     /** Polls once more. */
     native int poll(long ms, int[] found) throws IOException;
 
     /**
      * Tells the selection what each key that was found is ready for, and whether its time is over: how many keys were
-     * updated, or minus {@code AGAIN}, where nothing was found and it goes on. The ready sets that the table has then
-     * are written.
+     * updated, or minus {@code AGAIN}, where nothing was found and it goes on. Then the ready set is written of each key
+     * that the table marked, and 0 for each other one: it is as it was. Where the keys are consumed, one that is selected
+     * already is told as if it weren't, and no other one is selected.
      */
-    native int tell(int[] told, int[] ready, int count, boolean elapsed);
-
-    /** Removes the keys that were cancelled. */
-    native int sweep();
+    native int tell(int[] told, int count, boolean elapsed, boolean consumes);
 
     /** Ends a selection that failed. */
     native void leave();
-
-    native void cancel(int index, int serial);
 
     // ---- one at a time ----
 
     /** Writes the channel's number, and the index and the serial of its key. */
     native int register(int fd, int kind, int ops, int[] names);
 
-    /** Lets the channel of a removed key go. */
-    native void forget(int channel);
+    /** Cancels these keys, removes them, and lets their channels go. It has the selector's monitor too. */
+    native int remove(int[] names);
 
     /** Ends the closing, and lets the table go. Later calls find no key. */
     native void finish();
@@ -161,6 +151,8 @@ final class Table {
     native int interestAnd(int index, int serial, int ops);
 
     native boolean unselect(int index, int serial);
+
+    native void unselectAll(int[] names);
 
     private static native long make(int keys, int channels) throws IOException;
 
