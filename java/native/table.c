@@ -14,6 +14,7 @@
 #include <errno.h>
 #include <sched.h>
 #include <stdatomic.h>
+#include <stddef.h>
 #include <stdlib.h>
 #include <string.h>
 #include <sys/epoll.h>
@@ -60,6 +61,23 @@ typedef struct place {
     bool selected; /* before a selection with an action: its key was in the selected set */
 } place;
 
+/* What a poll found. Java reads it, and writes what the channel is ready for. */
+typedef struct found {
+    uint32_t channel;
+    jint index;
+    jint events;
+    jint interest;
+    jint ready;
+} found;
+
+#define WORD(name, field)                                                                                              \
+    _Static_assert(offsetof(found, field) == nio_provider_Table_##name * sizeof(jint), "Table." #name)
+WORD(INDEX, index);
+WORD(EVENTS, events);
+WORD(INTEREST, interest);
+WORD(READY, ready);
+_Static_assert(sizeof(found) == nio_provider_Table_WORDS * sizeof(jint), "Table.WORDS");
+
 typedef struct table {
     cell cells[CELLS];
     _Alignas(64) atomic_bool changed; /* since a selection began: what it asks for */
@@ -74,8 +92,7 @@ typedef struct table {
     nio_pair *pairs;
     nio_changed *marked; /* what the table marked */
     struct epoll_event *events;
-    uint32_t *found;   /* the channels that the last poll found */
-    jint (*names)[3];  /* what Java is given of each */
+    found *found;
     bool must_arm;
     bool is_gone;
 } table;
@@ -178,7 +195,6 @@ static void let_go(table *t)
     free(t->marked);
     free(t->events);
     free(t->found);
-    free(t->names);
 }
 
 static nio_status make_callers(table *t, uint32_t channels)
@@ -203,9 +219,8 @@ static bool make_room(table *t, uint32_t channels)
     t->marked = malloc(EVENTS * sizeof *t->marked);
     t->events = malloc(EVENTS * sizeof *t->events);
     t->found = malloc(EVENTS * sizeof *t->found);
-    t->names = malloc(EVENTS * sizeof *t->names);
     return t->places != NULL && t->asked != NULL && t->pairs != NULL && t->marked != NULL && t->events != NULL &&
-           t->found != NULL && t->names != NULL;
+           t->found != NULL;
 }
 
 static bool make_descriptors(table *t)
@@ -279,6 +294,14 @@ NATIVE(void, finish)
     }
     let_go(t);
     t->is_gone = true;
+}
+
+/* What polls find, for Java. */
+JNIEXPORT jobject JNICALL Java_nio_provider_Table_foundAt(JNIEnv *env, jclass class, jlong at)
+{
+    table *t = (table *)(intptr_t)at;
+    (void)class;
+    return (*env)->NewDirectByteBuffer(env, t->found, EVENTS * sizeof *t->found);
 }
 
 JNIEXPORT void JNICALL Java_nio_provider_Table_release(JNIEnv *env, jclass class, jlong at)
@@ -366,11 +389,11 @@ static jint wait_for(JNIEnv *env, table *t, int timeout)
     return FAILED;
 }
 
-/* Writes the index, the events and the interest of each key that so many events are of, and empties the bell where one
- * is the bell's. Answers how many keys there are. */
-static jint write_found(JNIEnv *env, table *t, jint count, jintArray found)
+/* Notes each key that so many events are of, and empties the bell where one is the bell's. Answers how many keys there
+ * are. */
+static jint note_found(table *t, jint count)
 {
-    jint written = 0;
+    jint noted = 0;
     for (jint i = 0; i < count; i++) {
         uint32_t number = t->events[i].data.u32;
         if (number == BELL) {
@@ -378,23 +401,17 @@ static jint write_found(JNIEnv *env, table *t, jint count, jintArray found)
             continue;
         }
         place *p = &t->places[number];
-        jint *names = t->names[written];
-        p->at = (uint32_t)written;
-        names[0] = (jint)p->index;
-        names[1] = (jint)t->events[i].events;
-        names[2] = p->interest;
-        t->found[written++] = number;
+        p->at = (uint32_t)noted;
+        t->found[noted++] = (found){number, (jint)p->index, (jint)t->events[i].events, p->interest, 0};
     }
-    if (written > 0)
-        (*env)->SetIntArrayRegion(env, found, 0, 3 * written, t->names[0]);
-    return written;
+    return noted;
 }
 
-/* Polls once, and writes what was found. */
-static jint poll_once(JNIEnv *env, table *t, int timeout, jintArray found)
+/* Polls once, and notes what was found. */
+static jint poll_once(JNIEnv *env, table *t, int timeout)
 {
     jint count = wait_for(env, t, timeout);
-    return count < 0 ? count : write_found(env, t, count, found);
+    return count < 0 ? count : note_found(t, count);
 }
 
 static int timeout_of(jlong ms)
@@ -404,35 +421,35 @@ static int timeout_of(jlong ms)
 
 /* After the first poll, which didn't wait and found so many keys: where there is none the table is told so, and then
  * the next poll waits. */
-static jint go_on(JNIEnv *env, table *t, jlong ms, jint count, jintArray found)
+static jint go_on(JNIEnv *env, table *t, jlong ms, jint count)
 {
     nio_selected selected;
     if (count != 0)
         return count;
     nio_status status = nio_told(selecting(t), t->selector, t->pairs, 0, false, false, &selected);
     if (status == NIO_AGAIN)
-        return poll_once(env, t, timeout_of(ms), found);
+        return poll_once(env, t, timeout_of(ms));
     return status == NIO_DONE ? OVER : answer(status);
 }
 
 /* Polls for what the selection asks for. */
-static jint look_for(JNIEnv *env, table *t, jlong ms, jintArray found)
+static jint look_for(JNIEnv *env, table *t, jlong ms)
 {
     arm(t);
-    return go_on(env, t, ms, poll_once(env, t, 0, found), found);
+    return go_on(env, t, ms, poll_once(env, t, 0));
 }
 
-static jint start_at(JNIEnv *env, table *t, jlong ms, jintArray found)
+static jint start_at(JNIEnv *env, table *t, jlong ms)
 {
     nio_status status = begin_for(t, ms);
-    return status == NIO_DONE ? look_for(env, t, ms, found) : answer(status);
+    return status == NIO_DONE ? look_for(env, t, ms) : answer(status);
 }
 
 /* A selection that doesn't wait, while epoll watches for all that it would ask for. It polls first. Where that finds
  * nothing, not the bell either, no wakeup is pending, and there is nothing to mark or to remove: the table would answer
  * 0 and stay as it is, so it isn't asked. Else it begins, and takes what was found, or polls again where something
  * changed meanwhile. */
-static jint start_settled(JNIEnv *env, table *t, jintArray found)
+static jint start_settled(JNIEnv *env, table *t)
 {
     const jlong now = nio_provider_Table_NOW;
     jint count = wait_for(env, t, 0);
@@ -442,80 +459,73 @@ static jint start_settled(JNIEnv *env, table *t, jintArray found)
     if (status != NIO_DONE)
         return answer(status);
     if (t->must_arm)
-        return look_for(env, t, now, found);
-    return go_on(env, t, now, write_found(env, t, count, found), found);
+        return look_for(env, t, now);
+    return go_on(env, t, now, note_found(t, count));
 }
 
 /* Begins a selection, and looks. Java calls it where no key is cancelled that the table wasn't told of. */
-NATIVE(jint, start, jlong ms, jintArray found)
+NATIVE(jint, start, jlong ms)
 {
     table *t = table_of(env, self);
     bool settled = !t->must_arm && !atomic_load(&t->changed);
-    return settled && ms == nio_provider_Table_NOW ? start_settled(env, t, found) : start_at(env, t, ms, found);
+    return settled && ms == nio_provider_Table_NOW ? start_settled(env, t) : start_at(env, t, ms);
 }
 
-NATIVE(jint, poll, jlong ms, jintArray found)
+NATIVE(jint, poll, jlong ms)
 {
-    return poll_once(env, table_of(env, self), timeout_of(ms), found);
+    return poll_once(env, table_of(env, self), timeout_of(ms));
 }
 
-/* The key of a channel that the last poll found. */
-static nio_key key_found(const table *t, const place *p)
+static nio_key key_found(const table *t, const found *f)
 {
-    return (nio_key){t->selector, p->index, p->key};
+    return (nio_key){t->selector, (uint32_t)f->index, t->places[f->channel].key};
 }
 
-/* Takes each key that is told of out of the selected set: so the table marks it, selected before or not. */
-static void unselect_told(table *t, jint count, const jint *ops)
+/* Takes each key that is ready out of the selected set: so the table marks it, selected before or not. */
+static void unselect_ready(table *t, jint count)
 {
-    for (jint i = 0; i < count; i++) {
-        place *p = &t->places[t->found[i]];
-        if (ops[i] != 0)
-            nio_unselect(selecting(t), key_found(t, p), &p->selected);
-    }
+    for (const found *f = t->found; f < t->found + count; f++)
+        if (f->ready != 0)
+            nio_unselect(selecting(t), key_found(t, f), &t->places[f->channel].selected);
 }
 
-/* Takes out again what wasn't selected before. */
-static void unselect_added(table *t, jint count, const jint *ops)
+/* Takes what was marked out again, unless it was selected before. */
+static void unselect_added(table *t, jint count)
 {
     bool taken;
-    for (jint i = 0; i < count; i++) {
-        const place *p = &t->places[t->found[i]];
-        if (ops[i] != 0 && !p->selected)
-            nio_unselect(selecting(t), key_found(t, p), &taken);
-    }
+    for (const found *f = t->found; f < t->found + count; f++)
+        if (f->ready != 0 && !t->places[f->channel].selected)
+            nio_unselect(selecting(t), key_found(t, f), &taken);
 }
 
 /* Tells the table. As the JDK's, a selection is over once a poll found anything, also where only such keys are ready as
  * are selected with these operations already, or where Java knows that what was found is cancelled: its time is said to
- * be over then. `ops` gets the ready set of each key that the table marked, and 0 for each other one. It marks no more
- * than it is told of, and removes none: a key is cancelled in the table by `remove` alone, which removes it too. */
-static nio_status tell_found(table *t, jint count, jint *ops, bool elapsed, nio_selected *selected)
+ * be over then. Each key that the table marked gets its ready set, and each other one 0. It marks no more than it is
+ * told of, and removes none: a key is cancelled in the table by `remove` alone, which removes it too. */
+static nio_status tell_found(table *t, jint count, bool elapsed, nio_selected *selected)
 {
     size_t marked = 0;
-    for (jint i = 0; i < count; i++)
-        t->pairs[i] = (nio_pair){.index = t->places[t->found[i]].index, .ready = (nio_ops)ops[i]};
+    for (jint i = 0; i < count; i++) {
+        t->pairs[i] = (nio_pair){.index = (uint32_t)t->found[i].index, .ready = (nio_ops)t->found[i].ready};
+        t->found[i].ready = 0;
+    }
     nio_status status = nio_told_listing(selecting(t), t->selector, t->pairs, (size_t)count, elapsed || count > 0,
                                          false, selected, t->marked, EVENTS, &marked);
-    memset(ops, 0, (size_t)count * sizeof *ops);
     for (size_t i = 0; i < marked; i++)
-        ops[t->places[t->marked[i].channel].at] = t->marked[i].ready;
+        t->found[t->places[t->marked[i].channel].at].ready = t->marked[i].ready;
     return status;
 }
 
-/* Tells what each key that the last poll found is ready for, and writes what the table marked. */
-NATIVE(jint, tell, jintArray told, jint count, jboolean elapsed, jboolean consumes)
+/* Tells what each key that the last poll found is ready for. */
+NATIVE(jint, tell, jint count, jboolean elapsed, jboolean consumes)
 {
     table *t = table_of(env, self);
     nio_selected selected = {0};
-    jint *ops = t->names[0];
-    (*env)->GetIntArrayRegion(env, told, 0, count, ops);
     if (consumes)
-        unselect_told(t, count, ops);
-    nio_status status = tell_found(t, count, ops, elapsed, &selected);
+        unselect_ready(t, count);
+    nio_status status = tell_found(t, count, elapsed, &selected);
     if (consumes)
-        unselect_added(t, count, ops);
-    (*env)->SetIntArrayRegion(env, told, 0, count, ops);
+        unselect_added(t, count);
     return answer_or(status, (jint)selected.count);
 }
 
@@ -736,19 +746,21 @@ NATIVE(jboolean, unselect, jint index, jint serial)
     return taken;
 }
 
-/* Takes all these keys out of the selected set. */
-NATIVE(void, unselectAll, jintArray names)
+/* Takes these keys out of the selected set, of whose names there are so many. */
+NATIVE(void, unselectAll, jintArray names, jint count)
 {
     table *t = table_of(env, self);
     bool taken;
-    jsize count = (*env)->GetArrayLength(env, names) / 3;
+    jint some[3 * 64];
+    jint most = sizeof some / sizeof *some;
     cell *c = take(t, env);
     if (c == NULL)
         return;
-    jint *each = (*env)->GetPrimitiveArrayCritical(env, names, NULL);
-    for (jsize i = 0; each != NULL && i < count; i++)
-        nio_unselect(&c->caller, key_named(t, each + 3 * i), &taken);
-    if (each != NULL)
-        (*env)->ReleasePrimitiveArrayCritical(env, names, each, JNI_ABORT);
+    for (jint from = 0; from < count; from += most) {
+        jint length = count - from < most ? count - from : most;
+        (*env)->GetIntArrayRegion(env, names, from, length, some);
+        for (jint i = 0; i < length; i += 3)
+            nio_unselect(&c->caller, key_named(t, some + i), &taken);
+    }
     give(c);
 }

@@ -29,9 +29,6 @@ import sun.nio.ch.SelChImpl;
  * channels are told where a key is removed.
  */
 final class NioSelector extends AbstractSelector {
-    /** A poll finds index, events and interest of each key. */
-    private static final int FOUND = 3;
-
     private final Table table = new Table();
     private final Set<SelectionKey> keys = Collections.unmodifiableSet(new KeySet(this, table));
     private final SelectedKeySet selectedKeys = new SelectedKeySet(table);
@@ -43,10 +40,8 @@ final class NioSelector extends AbstractSelector {
     private volatile AtomicReferenceArray<NioKey> keyAt = new AtomicReferenceArray<>(32);
 
     /** Below: with the selector's monitor. */
-    private final int[] found = new int[FOUND * Table.MOST_FOUND];
-
     private final NioKey[] foundKeys = new NioKey[Table.MOST_FOUND];
-    private final int[] told = new int[Table.MOST_FOUND];
+
     private boolean isSelecting;
 
     /** The keys that the table has removed, and that Java still has. */
@@ -242,7 +237,7 @@ final class NioSelector extends AbstractSelector {
     /** Polls until the selection is over. */
     private int poll(long ms, List<NioKey> consumed) throws IOException {
         long end = ms > 0 ? System.nanoTime() + nanos(ms) : 0;
-        int count = table.start(ms, found);
+        int count = table.start(ms);
         while (count != Table.OVER) {
             long left = ms > 0 && count == 0 ? end - System.nanoTime() : 1;
             int updated = tell(translate(Table.accepted(count)), left <= 0, consumed);
@@ -250,7 +245,7 @@ final class NioSelector extends AbstractSelector {
             if (updated != -Table.AGAIN) {
                 return Table.accepted(updated);
             }
-            count = table.poll(ms > 0 ? millis(left) : ms, found);
+            count = table.poll(ms > 0 ? millis(left) : ms);
         }
         return 0;
     }
@@ -267,19 +262,22 @@ final class NioSelector extends AbstractSelector {
     /** Says what each key that was found is ready for: where it was cancelled meanwhile, for nothing. */
     private int translate(int count) {
         for (int i = 0; i < count; i++) {
-            NioKey key = key(found[FOUND * i]);
+            NioKey key = key(table.found(i, Table.INDEX));
             foundKeys[i] = key;
-            told[i] = key.isValid() ? key.readyBy(found[FOUND * i + 1], found[FOUND * i + 2]) : 0;
+            if (key.isValid()) {
+                table.setReady(i, key.readyBy(table.found(i, Table.EVENTS), table.found(i, Table.INTEREST)));
+            }
         }
         return count;
     }
 
     /** Tells the table of what was found: how many keys it updated, or minus {@code AGAIN}. */
     private int tell(int count, boolean elapsed, List<NioKey> consumed) {
-        int updated = table.tell(told, count, elapsed, consumed != null);
+        int updated = table.tell(count, elapsed, consumed != null);
         for (int i = 0; i < count; i++) {
-            if (told[i] != 0) {
-                mark(foundKeys[i], told[i], consumed);
+            int ready = table.found(i, Table.READY);
+            if (ready != 0) {
+                mark(foundKeys[i], ready, consumed);
             }
         }
         return updated;

@@ -2,6 +2,9 @@ package nio.provider;
 
 import java.io.IOException;
 import java.lang.ref.Cleaner;
+import java.nio.ByteBuffer;
+import java.nio.ByteOrder;
+import java.nio.IntBuffer;
 import java.nio.channels.CancelledKeyException;
 import java.nio.channels.ClosedSelectorException;
 import java.util.Arrays;
@@ -34,6 +37,14 @@ final class Table {
     /** How many keys a poll finds at most. */
     static final int MOST_FOUND = 1024;
 
+    /** What is known of each in {@code found}: so many words, and which of them. */
+    static final int WORDS = 5;
+
+    static final int INDEX = 1;
+    static final int EVENTS = 2;
+    static final int INTEREST = 3;
+    static final int READY = 4;
+
     /** How many keys a selector has at most. */
     private static final int KEYS = Integer.getInteger("nio.keys", 16_384);
 
@@ -49,9 +60,13 @@ final class Table {
     /** Of the native struct. The native code reads it. */
     private final long address;
 
+    /** What the last poll found, in native memory. */
+    private final IntBuffer found;
+
     Table() throws IOException {
         long made = make(KEYS, CHANNELS);
         address = made;
+        found = foundAt(made).order(ByteOrder.nativeOrder()).asIntBuffer();
         CLEANER.register(this, () -> release(made));
     }
 
@@ -101,22 +116,32 @@ final class Table {
 
     // ---- native/table.c: with the selector's monitor ----
 
+    /** A word of a key that the last poll found. */
+    int found(int place, int word) {
+        return found.get(WORDS * place + word);
+    }
+
+    /** Says what a key that the last poll found is ready for, before {@code tell}. */
+    void setReady(int place, int ops) {
+        found.put(WORDS * place + READY, ops);
+    }
+
     /**
-     * Begins a selection and polls: how many keys that found, or {@code OVER}. Of each the index, the events and the
-     * interest are written. It waits for at most so many milliseconds.
+     * Begins a selection and polls: how many keys that found, or {@code OVER}. It waits for at most so many
+     * milliseconds.
      */
-    native int start(long ms, int[] found) throws IOException;
+    native int start(long ms) throws IOException;
 
     /** Polls once more. */
-    native int poll(long ms, int[] found) throws IOException;
+    native int poll(long ms) throws IOException;
 
     /**
      * Tells the selection what each key that was found is ready for, and whether its time is over: how many keys were
-     * updated, or minus {@code AGAIN}, where nothing was found and it goes on. Then the ready set is written of each key
-     * that the table marked, and 0 for each other one: it is as it was. Where the keys are consumed, one that is selected
-     * already is told as if it weren't, and no other one is selected.
+     * updated, or minus {@code AGAIN}, where nothing was found and it goes on. Then {@code READY} is the ready set of
+     * each key that the table marked, and 0 of each other one, which is as it was. Where the keys are consumed, one that
+     * is selected already is told as if it weren't, and no other one is selected.
      */
-    native int tell(int[] told, int count, boolean elapsed, boolean consumes);
+    native int tell(int count, boolean elapsed, boolean consumes);
 
     /** Ends a selection that failed. */
     native void leave();
@@ -152,7 +177,14 @@ final class Table {
 
     native boolean unselect(int index, int serial);
 
-    native void unselectAll(int[] names);
+    /** Takes these keys out of the selected set. */
+    void unselectAll(int[] names) {
+        unselectAll(names, names.length);
+    }
+
+    private native void unselectAll(int[] names, int count);
+
+    private static native ByteBuffer foundAt(long address);
 
     private static native long make(int keys, int channels) throws IOException;
 
