@@ -58,7 +58,7 @@ typedef struct place {
     uint32_t next;   /* of the channels of its kind that are closed */
     uint32_t at;     /* where it is in what the last poll found */
     nio_ops interest;
-    bool selected; /* before a selection with an action: its key was in the selected set */
+    bool selected; /* its key was, before a selection with an action */
 } place;
 
 /* What a poll found. Java reads it, and writes what the channel is ready for. */
