@@ -1,6 +1,6 @@
 /*
- * Times calls from C over 64 and 1,000 keys: selections (begin, asked, told) with none and with all of the keys ready,
- * taking the selected keys out, wakeup, ready. Each line is the least time of some rounds, in nanoseconds.
+ * Times calls from C over 64 and 1,000 keys: selections (begin, asked, told; and begin, told) with none and with all of
+ * the keys ready, taking the selected keys out, wakeup, ready. Each line is the least time of some rounds, in nanoseconds.
  */
 #define _GNU_SOURCE
 #include "nio.h"
@@ -30,24 +30,25 @@ static double now(void)
     return (double)t.tv_sec * 1e9 + (double)t.tv_nsec;
 }
 
-static void select_now(nio_caller *caller, uint32_t selector, size_t ready)
+static void select_now(nio_caller *caller, uint32_t selector, size_t ready, bool asks)
 {
     nio_selected selected;
     size_t count;
     must(nio_begin_now(caller, selector));
-    must(nio_asked(caller, selector, looked, MOST, &count));
+    if (asks)
+        must(nio_asked(caller, selector, looked, MOST, &count));
     must(nio_told(caller, selector, pairs, ready, false, false, &selected));
 }
 
 /* The least time of a selection; the keys that it selected are taken out at once. */
-static double least_selection(nio_caller *caller, uint32_t selector, size_t ready, double *taking)
+static double least_selection(nio_caller *caller, uint32_t selector, size_t ready, bool asks, double *taking)
 {
     double best = 1e18;
     size_t count;
     *taking = 1e18;
     for (int round = 0; round < ROUNDS; round++) {
         double start = now();
-        select_now(caller, selector, ready);
+        select_now(caller, selector, ready, asks);
         double middle = now();
         must(nio_take_all_selected(caller, selector, keys, MOST, &count));
         double end = now();
@@ -99,8 +100,10 @@ static void measure(uint32_t count)
         must(nio_register(&caller, selector, channel, NIO_READ, 0, &key));
         pairs[i] = (nio_pair){.index = key.index, .ready = NIO_READ};
     }
-    printf("%u keys: selection, none ready: %.0f\n", count, least_selection(&caller, selector, 0, &taking));
-    printf("%u keys: selection, all ready: %.0f\n", count, least_selection(&caller, selector, count, &taking));
+    printf("%u keys: selection, none ready: %.0f\n", count, least_selection(&caller, selector, 0, true, &taking));
+    printf("%u keys: selection, all ready: %.0f\n", count, least_selection(&caller, selector, count, true, &taking));
+    printf("%u keys: begin, told, none ready: %.0f\n", count, least_selection(&caller, selector, 0, false, &taking));
+    printf("%u keys: begin, told, all ready: %.0f\n", count, least_selection(&caller, selector, count, false, &taking));
     printf("%u keys: taking all selected out: %.0f\n", count, taking);
     printf("%u keys: wakeup: %.1f\n", count, least_call(wakeup, &caller, key));
     printf("%u keys: ready: %.1f\n", count, least_call(ready_ops, &caller, key));
