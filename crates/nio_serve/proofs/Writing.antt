@@ -32,7 +32,7 @@ pub written_else : (slots : List Slot) (j : ℕ) (slot : Slot) → IsSameButOne 
 written_else slots j slot =
     record { others = λ i other. get-set_other slots j i slot other; length = length-set slots j slot }
 
--- and it is what was made of it
+-- the slot j is f of what it was
 pub written_slot : (f : Slot → Slot) (slots : List Slot) (j : ℕ) (was slot : Slot) → slice_get slots j ≡ Some was
     → slot ≡ f was → slice_get (set slots j slot) j ≡ option_map f (slice_get slots j)
 written_slot f slots j was slot at is =

@@ -95,6 +95,7 @@ fn told_of_listener(told: &[(ChanNo, Ops)]) -> Ops
 /// What a proxy works with. The listener is watched at its port, for `interest`, until all connections were accepted.
 #[derive(Drop)]
 pub(crate) struct Proxy<'a> {
+    alloc: Global,
     pub board: Board<'a>,
     pub port: Option<Port>,
     interest: Ops,
@@ -122,6 +123,7 @@ impl<'a> Proxy<'a> {
         let mut board = board;
         match board.watch(rt, LISTENER, Kind::Listener, Ops::ACCEPT) {
             Ok(port) => Ok(Proxy {
+                alloc,
                 board,
                 port: Some(port),
                 interest: Ops::ACCEPT,
@@ -143,7 +145,6 @@ impl<'a> Proxy<'a> {
     fn accept_one<R: Wait, N, W: Way<N>>(
         &mut self,
         rt: &R,
-        alloc: Global,
         way: &mut W,
         net: &mut N,
     ) -> Result<bool, ServeError>
@@ -161,7 +162,7 @@ impl<'a> Proxy<'a> {
     {
         if self.connections.begun < self.connections.conns {
             self.connections
-                .accept(rt, alloc, way, net, &mut self.board)
+                .accept(rt, self.alloc, way, net, &mut self.board)
         } else {
             Ok(false)
         }
@@ -171,7 +172,6 @@ impl<'a> Proxy<'a> {
     fn accept_all<R: Wait, N, W: Way<N>>(
         &mut self,
         rt: &R,
-        alloc: Global,
         way: &mut W,
         net: &mut N,
     ) -> Result<(), ServeError>
@@ -186,7 +186,7 @@ impl<'a> Proxy<'a> {
         ensures watching { Watching self.old.board self.new.board self.new.connections result }
     {
         for _ in 0..=self.connections.conns {
-            if !self.accept_one(rt, alloc, way, net)? {
+            if !self.accept_one(rt, way, net)? {
                 return Ok(());
             }
         }
@@ -197,7 +197,6 @@ impl<'a> Proxy<'a> {
     fn accept_told<R: Wait, N, W: Way<N>>(
         &mut self,
         rt: &R,
-        alloc: Global,
         way: &mut W,
         net: &mut N,
         ops: Ops,
@@ -213,7 +212,7 @@ impl<'a> Proxy<'a> {
         ensures watching { Watching self.old.board self.new.board self.new.connections result }
     {
         if self.port.is_some() && Ops::ACCEPT.within(ops) {
-            self.accept_all(rt, alloc, way, net)
+            self.accept_all(rt, way, net)
         } else {
             Ok(())
         }
@@ -314,7 +313,6 @@ impl<'a> Proxy<'a> {
     fn serve_all<R: Wait, N, W: Way<N>>(
         &mut self,
         rt: &R,
-        alloc: Global,
         way: &mut W,
         net: &mut N,
         told: &[(ChanNo, Ops)],
@@ -337,14 +335,13 @@ impl<'a> Proxy<'a> {
             return served;
         }
         let ops = told_of_listener(told);
-        self.accept_told(rt, alloc, way, net, ops)
+        self.accept_told(rt, way, net, ops)
     }
 
     // One selection. It has removed the keys of the connections that ended before it.
     fn select<R: Wait, N, W: Way<N>>(
         &mut self,
         rt: &R,
-        alloc: Global,
         way: &mut W,
         net: &mut N,
         told: &mut Vec<(ChanNo, Ops)>,
@@ -359,7 +356,7 @@ impl<'a> Proxy<'a> {
         ensures cause { result ≡ Err NetFault → Rose (W.poll_faults net.old) (W.poll_faults net.new) }
         ensures watching { Watching self.old.board self.new.board self.new.connections result }
     {
-        match self.board.select(rt, alloc, way, net, told) {
+        match self.board.select(rt, self.alloc, way, net, told) {
             Ok(()) => {
                 self.connections.release();
                 Ok(())
@@ -482,7 +479,6 @@ impl<'a> Proxy<'a> {
     fn round<R: Wait, N, W: Way<N>>(
         &mut self,
         rt: &R,
-        alloc: Global,
         way: &mut W,
         net: &mut N,
         told: &mut Vec<(ChanNo, Ops)>,
@@ -503,11 +499,11 @@ impl<'a> Proxy<'a> {
         if prepared.is_err() {
             return prepared;
         }
-        let selected = self.select(rt, alloc, way, net, told);
+        let selected = self.select(rt, way, net, told);
         if selected.is_err() {
             return selected;
         }
-        self.serve_all(rt, alloc, way, net, told, scratch)
+        self.serve_all(rt, way, net, told, scratch)
     }
 
     // Closes the listener once all connections were accepted.
@@ -532,7 +528,6 @@ impl<'a> Proxy<'a> {
     fn serve<R: Wait, N, W: Way<N>>(
         &mut self,
         rt: &R,
-        alloc: Global,
         way: &mut W,
         net: &mut N,
         scratch: &mut [u8],
@@ -549,12 +544,12 @@ impl<'a> Proxy<'a> {
         ensures ended { OnOk result (self.new.connections.ended ≡ self.new.connections.conns) }
         ensures watching { Watching self.old.board self.new.board self.new.connections result }
     {
-        let mut told = Vec::new(alloc);
+        let mut told = Vec::new(self.alloc);
         for _ in rt.forever() {
             if self.connections.ended == self.connections.conns {
                 return Ok(());
             }
-            let served = self.round(rt, alloc, way, net, &mut told, scratch);
+            let served = self.round(rt, way, net, &mut told, scratch);
             if served.is_err() {
                 return served;
             }
@@ -567,7 +562,6 @@ impl<'a> Proxy<'a> {
     pub(crate) fn run<R: Wait, N, W: Way<N>>(
         &mut self,
         rt: &R,
-        alloc: Global,
         way: &mut W,
         net: &mut N,
     ) -> Result<(), ServeError>
@@ -582,8 +576,8 @@ impl<'a> Proxy<'a> {
         ensures ended { OnOk result (self.new.connections.ended ≡ self.new.connections.conns) }
         ensures watching { Watching self.old.board self.new.board self.new.connections result }
     {
-        match vec![in alloc; 0; CAPACITY] {
-            Ok(mut scratch) => self.serve(rt, alloc, way, net, &mut scratch),
+        match vec![in self.alloc; 0; CAPACITY] {
+            Ok(mut scratch) => self.serve(rt, way, net, &mut scratch),
             Err(AllocError) => Err(ServeError::Memory),
         }
     }

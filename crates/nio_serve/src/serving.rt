@@ -101,7 +101,7 @@ pub fn serve_on<'a, R: Wait, N, W: Way<N>>(
     if way.listen(net, LISTENER, plan.listen).is_err() {
         return (Err(ServeError::NetFault), proxy.into_board());
     }
-    let outcome = proxy.run(rt, alloc, way, net);
+    let outcome = proxy.run(rt, way, net);
     proxy.close_all(way, net);
     let faults = proxy.connections.faulted;
     let board = proxy.into_board();

@@ -13,7 +13,7 @@ use Rattle.nio_serve.proofs.Watching.{board_none, watching_added, watching_dropp
 use Rattle.nio_serve.proofs.Ways.{members}
 use Rattle.nio_serve.proofs.connections.Connections.accept_next.Goals as goal
 
--- the same, whatever buffers there were for the next connections
+-- which slot was taken doesn't hang on the spare buffers
 occupies_of : (client : ChanId) (relay : Option Relay) (before : Connections) (spare : Spare) (now : Connections)
     → Occupies client relay (record before { spare = spare }) now → Occupies client relay before now
 occupies_of client relay before spare now o = record {
